@@ -54,8 +54,8 @@ build: ## the proved programs that users run, build/dmr_trunk and build/dmr_deco
 	@ci/check-toolchain
 	@ci/build dmr_trunk dmr_decode
 
-build-tests: ## the proved program that trials need, build/dmr_refusals: some minutes after make build
-	@ci/build dmr_refusals
+build-tests: ## the proved program that trials and benches need, build/test_program: some minutes after make build
+	@ci/build test_program
 
 check: ## proves one crate over what earlier runs kept: make check CRATE=dmr_pool; all crates without CRATE
 ifdef CRATE
@@ -82,14 +82,13 @@ check-programs: ## tools, documents, a soak and serving, over the programs that 
 wrong-bodies: ## every wrong body that must be refused, those outside the gate too: of CRATE=name, of the k-th of n parts with PART=k/n, or all
 	@ci/wrong-bodies $(if $(PART),--part $(PART)) $(CRATE)
 
-bench: build/dmr_trunk ## times of served polls, and of the proved coder, engine and replay, beside those in C, in one run; and all words with three flips (bench/README.md)
+bench: build/dmr_trunk build/test_program ## times of served polls, and of the proved coder, engine and replay, beside those in C, in one run; and all words with three flips (bench/README.md)
 	@date -u +%Y-%m-%d
 	@sed -n 's/^model name[^:]*: *//p' /proc/cpuinfo | uniq -c
-	@cd crates/dmr_bench && rt run -- --flips
+	@build/test_program --flips
 	@bench/compare
 
-bench-instructions: build/dmr_trunk ## instructions of a served poll, of an event and of each function, ours beside C, counted by valgrind: figures that no other work on the machine changes
-	@cd crates/dmr_bench && rt run >/dev/null
+bench-instructions: build/dmr_trunk build/test_program ## instructions of a served poll, of an event and of each function, ours beside C, counted by valgrind: figures that no other work on the machine changes
 	@bench/instructions
 
 soak: build/dmr_trunk ## a million random inputs through the proved program, in both versions of the link, compared with the site in C of reference/
@@ -108,7 +107,7 @@ station: ## the kit in C for base stations: builds build/example and build/heari
 build/dmr_trunk build/dmr_decode:
 	@echo "no $@: run 'make build' first"; exit 2
 
-build/dmr_refusals:
+build/test_program:
 	@echo "no $@: run 'make build-tests' first"; exit 2
 
 serve-check: build/dmr_trunk ## the proved program serves sixteen carriers on loopback for half a minute, in each version of the link; what comes back is checked. FAULTS=1: ten minutes of trouble
@@ -133,7 +132,7 @@ unit-recipes: package ## units and drop-ins of the package with systemd as proce
 restart: build/dmr_trunk ## the proved program killed and started again over its file of records, a hundred times; and records that cannot be written for a while (five minutes)
 	trials/restart build/dmr_trunk
 
-refuse-memory: build/dmr_trunk build/dmr_refusals ## each allocation of two replays, of each call and of a served term refused in turn, in the proved programs (a minute)
+refuse-memory: build/dmr_trunk build/test_program ## each allocation of two replays, of each call and of a served term refused in turn, in the proved programs (a minute)
 	trials/refuse-memory
 
 tools-check: build/dmr_trunk build/dmr_decode ## the tests of the tools, over the proved programs (a minute)

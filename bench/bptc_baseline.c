@@ -8,7 +8,7 @@
  *
  * Each answers as the proved decoder does: the information of the codeword that differs in at most three of the places 1
  * to 195, or none. Before any time is taken, the two are checked against each other on ten thousand words of each kind.
- * The words are those of crates/dmr_bench: the same generator from the same seed. The program prints lines "what plain
+ * The words are those of crates/test_program: the same generator from the same seed. The program prints lines "what plain
  * packed count sum": the two rates, in words a second, how many were decoded, encoded or checked, and a sum of the results.
  */
 #define _POSIX_C_SOURCE 200809L

@@ -46,7 +46,7 @@ def proved(name: str) -> str:
     for folder in [pathlib.Path(named)] if named else [TOP / "crates" / name / "out", TOP / "build"]:
         if (folder / name).is_file():
             return str((folder / name).resolve())
-    raise Missing(f"there is no program {name}: run 'make build', and 'rt run' in crates/dmr_bench")
+    raise Missing(f"there is no program {name}: run 'make build build-tests'")
 
 
 def build(source: str, processor: str, folder: str, sources: pathlib.Path = BENCH) -> list[str]:

@@ -16,7 +16,7 @@ from plans import plan_of  # noqa: E402  (the path comes first)
 from temzaar import code, frames, pdus  # noqa: E402  (the path comes first)
 
 RADIOS, GROUPS, REGI = 60, 16, 0xFFFEC6
-# The site of the loads, as crates/dmr_bench and site_bench.c have it.
+# The site of the loads, as crates/test_program and site_bench.c have it.
 SITE = """system = 0x0A51
 regi = 0xFFFEC6
 tsi = 0xFFFECA

@@ -1,10 +1,10 @@
 /*
- * Plays loads to the site of reference/site.h. `make bench` compares it with `dmr_bench --load`.
+ * Plays loads to the site of reference/site.h. `make bench` compares it with `test_program --load`.
  *
  *     site_bench --load LOAD CARRIERS RADIOS FRAMES   plays frames of a load, and prints "rate octets sum events": events a
  *                                                     second, how many octets went out, their sum, and how many events came
  *
- * LOAD: polls, registrations, joins, calls, busy. The loads, and what an event is, are those of crates/dmr_bench.
+ * LOAD: polls, registrations, joins, calls, busy. The loads, and what an event is, are those of crates/test_program.
  * It is a bench, not a controller; site.h says what the site lacks.
  */
 #define _POSIX_C_SOURCE 200809L
@@ -28,7 +28,7 @@ typedef struct {
 static uint8_t output[CARRIERS][OUTPUT_ROOM];
 static uint8_t bursts[BURSTS][28];
 
-/* The site of crates/dmr_bench. */
+/* The site of crates/test_program. */
 static Plan bench_plan(int carriers) {
     Plan plan = {.system = 0x0A51,
                  .regi = REGI,

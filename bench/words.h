@@ -1,5 +1,5 @@
 /*
- * The words that crates/dmr_bench draws: the same generator (PCG32, XSH RR) from the same seed, so that programs can be
+ * The words that crates/test_program draws: the same generator (PCG32, XSH RR) from the same seed, so that programs can be
  * compared by counts and sums of what they answer. Not a source of randomness for anything else.
  */
 #ifndef WORDS_H
@@ -9,7 +9,7 @@
 #include "../reference/draws.h"
 #include <time.h>
 
-enum { WORDS_SEED = 42 }; /* that of crates/dmr_bench */
+enum { WORDS_SEED = 42 }; /* that of crates/test_program */
 
 typedef enum { CLEAN, FLIPS, RANDOM, KINDS } Kind;
 

@@ -18,7 +18,7 @@ TOP = pathlib.Path(__file__).resolve().parent.parent
 BUILD = TOP / "build"
 RECORD = BUILD / "SOURCES"
 # The two programs that users run, and then those that only tests and trials need.
-PROGRAMS = ("dmr_trunk", "dmr_decode", "dmr_refusals")
+PROGRAMS = ("dmr_trunk", "dmr_decode", "test_program")
 # The folders of a crate that no program is made from.
 NO_SOURCES = ("out", "must-fail", "wrong-bodies")
 

@@ -14,6 +14,25 @@ FOLDER = TOP / "cases"
 USUAL_SITE = "two_carriers"
 # The names of the two files in a fault.
 SITE_FILE, SCRIPT_FILE = "the.toml", "the.txt"
+# What test_program prints after the cases: each call that takes memory succeeds, and words with at most three flips are read.
+PRINTED_AFTER = """\
+Plan::read: done
+Site::new: done
+Registry::try_clone: done
+Access::try_clone: done
+Pool::try_clone: done
+Calls::try_clone: done
+Site::try_clone: done
+Engine::new: done
+Engine::run: done
+MemoryPort::new: done
+Book::new: done
+SharedDesk::open: done
+clean: 1000 of 1000 decoded
+three flips: 1000 of 1000 decoded
+random: 0 of 1000 decoded
+all patterns of three flips: 1235780 of 1235780 are read as the registration
+"""
 
 
 class CaseFault(Exception):
@@ -222,7 +241,7 @@ def word_of(case: Case) -> str:
 
 
 def stored_run() -> tuple[str, str]:
-    """The standard input of dmr_cases, in which each site is followed by its cases, and what the program prints for it."""
+    """The standard input of test_program, in which each site is followed by its cases, and what the program prints for it and after it."""
     taken: list[str] = []
     printed: list[str] = []
     cases = sorted(read_cases(), key=lambda case: case.site_name)
@@ -232,4 +251,4 @@ def stored_run() -> tuple[str, str]:
                 taken.append(f"%% no-site {name}\n" if case.site is None else f"%% site {name}\n{case.site}")
             taken.append(f"%% {word_of(case)} {case.full_name}\n{case.script or ''}")
             printed.append(f"== {case.full_name}\n{case.answer()}")
-    return "".join(taken), "".join(printed)
+    return "".join(taken), "".join(printed) + PRINTED_AFTER

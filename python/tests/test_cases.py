@@ -90,7 +90,7 @@ class OverLinks(unittest.TestCase):
 
 
 class Controlled(unittest.TestCase):
-    """The controller prints what each case says. The gate's run of dmr_cases shows the same of the library that both use, in every cutting too."""
+    """The controller prints what each case says. The gate's run of test_program shows the same of the library that both use, in every cutting too."""
 
     def setUp(self) -> None:
         self.program = program("dmr_trunk")

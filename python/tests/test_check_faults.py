@@ -146,7 +146,7 @@ def first_of(text: str) -> str:
 
 def stories() -> Iterator[tuple[str, str]]:
     """The site files of the controller's own tests, and what each is: `accepted`, or a fault."""
-    source = (TOP / "crates/dmr_stories/src/plans.rt").read_text(encoding="utf-8")
+    source = (TOP / "crates/test_stories/src/plans.rt").read_text(encoding="utf-8")
     source = source[source.index("static STORIES"):source.index("];", source.index("static STORIES"))]
     for literal in re.findall(r'"((?:[^"\\]|\\.|\\\n)*)"', source):
         for line in re.sub(r"\\\n\s*", "", literal).replace('\\"', '"').strip("\n").split("\n"):
@@ -155,7 +155,7 @@ def stories() -> Iterator[tuple[str, str]]:
 
 
 def with_changes(changes: str) -> str:
-    """The common site file with changes, as crates/dmr_stories/src/site_file.rt reads them."""
+    """The common site file with changes, as crates/test_stories/src/site_file.rt reads them."""
     text = CRATES_SITE
     for change in changes.split(" & "):
         old, _, new = f"{change} ".partition(" / ")

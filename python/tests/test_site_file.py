@@ -13,7 +13,7 @@ SITE_FILE = read_document("SITE_FILE.md")
 ARRAYS = ("address", "radios", "groups", "carrier")
 NO_CARRIER = 15
 # Tests and programs that cannot read a file: their `SITE` is the text of one.
-SITES_IN_CRATES = ("dmr_refusals/src/calls.rt", "dmr_stories/src/site_file.rt", "dmr_trials/src/site.rt")
+SITES_IN_CRATES = ("test_program/src/refusals/calls.rt", "test_stories/src/site_file.rt", "test_trials/src/site.rt")
 
 
 def example() -> str:

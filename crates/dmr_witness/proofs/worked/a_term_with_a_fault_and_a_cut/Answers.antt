@@ -1,5 +1,0 @@
-use Rattle.dmr_witness.proofs.WorkedTerm.{a_term}
-use Rattle.dmr_witness.proofs.worked.a_term_with_a_fault_and_a_cut.Goals as goal
-
-pub returns : goal.returns
-returns c = record { term = a_term }

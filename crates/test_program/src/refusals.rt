@@ -1,0 +1,42 @@
+//! Makes each public call of the controller's libraries that takes memory once, and prints its verdict: `done`,
+//! `refused`, or `not tried` if there was no memory for its preparation.
+//!
+//! `trials/refuse-memory` runs the program again and again, and refuses another allocation each time. A refused call
+//! has to return its error for that, and to keep its promise: the values that it was given or called on work as before.
+//! If it does not, the program prints `wrong` and its exit status is 1.
+
+mod calls;
+mod desks;
+mod runs;
+mod verdict;
+
+use crate::refusals::verdict::Verdict;
+use std::io;
+
+/// Makes the calls, and prints their verdicts. Returns whether none of them is wrong.
+pub fn make_calls<R: Print + AllocGlobal>(rt: &R) -> io::Result<bool> {
+    let alloc = rt.alloc();
+    let verdicts = [
+        ("Plan::read", calls::read_plan(alloc)),
+        ("Site::new", calls::new_site(alloc)),
+        ("Registry::try_clone", calls::clone_registry(alloc)),
+        ("Access::try_clone", calls::clone_access(alloc)),
+        ("Pool::try_clone", calls::clone_pool(alloc)),
+        ("Calls::try_clone", calls::clone_calls(alloc)),
+        ("Site::try_clone", calls::clone_site(alloc)),
+        ("Engine::new", runs::new_engine(alloc)),
+        ("Engine::run", runs::run_engine(alloc)),
+        ("MemoryPort::new", calls::new_port(alloc)),
+        ("Book::new", desks::new_book(alloc)),
+        ("SharedDesk::open", desks::open_desk(alloc)),
+    ];
+    let mut right = true;
+    for (call, verdict) in verdicts {
+        let words = verdict.words();
+        println!(rt; "{call}: {words}")?;
+        if verdict == Verdict::Wrong {
+            right = false;
+        }
+    }
+    Ok(right)
+}

@@ -1,0 +1,22 @@
+use Rattle.std.proofs.Common.{length, ◌+◌, arith}
+use Rattle.std.proofs.lemmas.Option.{slice_get_within}
+use Rattle.dmr_desk.specs.Views.{view_of}
+use Rattle.test_witness.proofs.SessionLemmas.{get_within, session}
+use Rattle.test_witness.proofs.session.one_session.Goals as goal
+
+pub returns-clause-carrier : goal.returns-clause-carrier
+returns-clause-carrier c = λ start end k s t answers term here there fresh told.
+    let run = term.run in
+    let low = slice_get_within start.stations k s here in
+    let ended = run.all_ended in
+    let ending = get_within end.ends k (omega arith) in
+    let work = run.carriers k s t ending.0 here there ending.1 in
+    session c.one_record.ensures.whole c.one_meaning.ensures.works s t (view_of k end.journal) answers work.0 work.1 fresh told
+
+pub returns-clause-operators : goal.returns-clause-operators
+returns-clause-operators c = λ start end answers term fresh told.
+    let run = term.run in
+    let ended = run.all_ended in
+    let ending = get_within end.ends (length start.stations + 1) (omega arith) in
+    let work = run.console ending.0 ending.1 in
+    session c.one_record.ensures.whole c.one_meaning.ensures.works start.console end.console (view_of (length start.stations + 1) end.journal) answers work.0 work.1 fresh told

@@ -4,9 +4,10 @@ They also judge the clients of its base stations.
 The package reads and writes the formats of `docs/FORMATS.md`. It is written from the documents alone, apart from the controller's code, so a
 comparison of the two means something. One module per subject, lowest first:
 
-    printable   text that came from outside, as a terminal may show it
+    printable   text that came from outside, as a terminal or a spreadsheet may show it
     version     the version of this program
     faults      the fault that a tool reports in a line, and files that are read with a limit
+    names       the names of radios, talkgroups and carriers, and how one is shown beside its number
     code        the block code of a burst, and the check of ten octets
     pdus        the PDUs: one table of layouts, read in both directions
     frames      the frames of the link in both versions: one cutter for both directions

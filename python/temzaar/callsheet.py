@@ -6,6 +6,8 @@ from enum import Enum
 
 from temzaar.calls import CallRecord
 from temzaar.clock import Clock, Window
+from temzaar.names import CALL_FIELDS, NAME_COLUMNS, NO_NAMES, Kind, Names, called_kind, named
+from temzaar.printable import columns_of, padded, safe_cell
 
 COLUMNS = ("begun", "ended", "begun_time", "ended_time", "carrier", "slot", "kind", "source", "target", "cause", "waited_ticks", "waited_seconds")
 
@@ -17,14 +19,15 @@ class ListFormat(Enum):
     JSON = "json"
 
 
-def call_row(record: CallRecord, clock: Clock) -> dict[str, str | int | float | None]:
+def call_row(record: CallRecord, clock: Clock, names: Names | None) -> dict[str, str | int | float | None]:
     """The columns of a call. A value that is not known, or that the call does not have, is None."""
-    return {
+    row = {
         "begun": record.begun, "ended": record.ended, "begun_time": clock.full_time(record.begun) or None,
         "ended_time": None if record.ended is None else clock.full_time(record.ended) or None,
         "carrier": record.carrier, "slot": record.slot, "kind": record.kind, "source": record.source, "target": record.target, "cause": record.cause.value,
         "waited_ticks": record.waited, "waited_seconds": None if record.waited is None else clock.seconds(record.waited),
     }
+    return row if names is None else {**row, **names.of_call(called_kind(record.kind == "talkgroup"), record.source, record.target, record.carrier)}
 
 
 def calls_in(records: list[CallRecord], window: Window) -> list[CallRecord]:
@@ -32,33 +35,35 @@ def calls_in(records: list[CallRecord], window: Window) -> list[CallRecord]:
     return [it for it in records if it.begun < window.end and (it.ended is None or it.ended >= window.first)]
 
 
-def text_cells(record: CallRecord, clock: Clock) -> list[str]:
+def text_cells(record: CallRecord, clock: Clock, names: Names) -> list[str]:
     """The cells of a call in the text table."""
     def at(tick: int | None) -> str:
         """A tick, with its clock time if it is known."""
         return "-" if tick is None else f"{tick} {clock.time_of_day(tick)}".rstrip()
 
     waited = "-" if record.waited is None else f"{record.waited} ({clock.seconds(record.waited):.1f} s)"
-    source = "-" if record.source is None else str(record.source)
-    return [at(record.begun), at(record.ended), f"{record.carrier}/{record.slot}", record.kind, source, str(record.target), waited, record.cause.value]
+    source = "-" if record.source is None else names.beside(Kind.RADIO, record.source, NAME_COLUMNS)
+    target = names.beside(called_kind(record.kind == "talkgroup"), record.target, NAME_COLUMNS)
+    slot = named(f"{record.carrier}/{record.slot}", names.name_of(Kind.CARRIER, record.carrier), NAME_COLUMNS)
+    return [at(record.begun), at(record.ended), slot, record.kind, source, target, waited, record.cause.value]
 
 
-def text_table(records: list[CallRecord], clock: Clock) -> str:
+def text_table(records: list[CallRecord], clock: Clock, names: Names) -> str:
     """The list as a table for people."""
-    rows = [["begun", "ended", "slot", "kind", "source", "target", "waited", "cause of the end"], *(text_cells(it, clock) for it in records)]
-    widths = [max(len(row[n]) for row in rows) for n in range(len(rows[0]))]
-    return "".join("  ".join(f"{cell:<{width}}" for cell, width in zip(row, widths, strict=True)).rstrip() + "\n" for row in rows)
+    rows = [["begun", "ended", "slot", "kind", "source", "target", "waited", "cause of the end"], *(text_cells(it, clock, names) for it in records)]
+    widths = [max(columns_of(row[n]) for row in rows) for n in range(len(rows[0]))]
+    return "".join("  ".join(map(padded, row, widths)).rstrip() + "\n" for row in rows)
 
 
-def write_list(records: list[CallRecord], clock: Clock, form: ListFormat) -> str:
-    """The list of calls in a format."""
+def write_list(records: list[CallRecord], clock: Clock, form: ListFormat, names: Names | None = None) -> str:
+    """The list of calls in a format, with their names if there are any."""
     if form is ListFormat.TEXT:
-        return text_table(records, clock)
-    rows = [call_row(it, clock) for it in records]
+        return text_table(records, clock, names or NO_NAMES)
+    rows = [call_row(it, clock, names) for it in records]
     if form is ListFormat.JSON:
         return json.dumps(rows, indent=2) + "\n"
     out = io.StringIO(newline="")
-    writer = csv.DictWriter(out, COLUMNS, lineterminator="\n")
+    writer = csv.DictWriter(out, COLUMNS if names is None else (*COLUMNS, *CALL_FIELDS), lineterminator="\n")
     writer.writeheader()
-    writer.writerows(rows)
+    writer.writerows({name: safe_cell(value) for name, value in row.items()} for row in rows)
     return out.getvalue()

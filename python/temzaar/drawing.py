@@ -7,6 +7,8 @@ from temzaar import pdus
 from temzaar.calls import Calls, SlotKey
 from temzaar.clock import Clock, Window
 from temzaar.grants import Call, granted_parties, is_grant, is_late
+from temzaar.names import NAME_COLUMNS, NO_NAMES, Kind, Names, called_kind
+from temzaar.printable import columns_of, cut_text
 from temzaar.script import Event, Input
 from temzaar.timeaxis import TimeAxis
 
@@ -97,24 +99,28 @@ class Axis:
         return self.clock.time_of_day(tick)
 
 
-def event_in_words(event: Event) -> str:
-    """An event in words."""
+def event_in_words(event: Event, names: Names = NO_NAMES) -> str:
+    """An event in words, with names beside numbers."""
+    def radio(number: int) -> str:
+        """A radio."""
+        return names.beside(Kind.RADIO, number)
+
     if not event.octets:
-        words = {"heard": "a burst was heard (flipped bits, or noise)", "said": f"operator: {event.text.strip()}", "radio": event.text}
+        words = {"heard": "a burst was heard (flipped bits, or noise)", "said": f"operator: {names.in_text(event.text.strip())}", "radio": event.text}
         return words.get(event.what, event.what)
     pdu = pdus.read(event.octets)
     if pdu.name == "C_ACKD":
-        return f"C_ACKD to {pdu['target']}: {pdus.reason_in_words(pdu['reason'])}"
+        return f"C_ACKD to {radio(pdu['target'])}: {pdus.reason_in_words(pdu['reason'])}"
     if is_grant(pdu):
-        return f"{'late ' if is_late(pdu) else ''}{pdu.name} of channel {pdu['lpcn']} slot {pdu['slot']} to {granted_parties(pdu)}"
+        return f"{'late ' if is_late(pdu) else ''}{pdu.name} of channel {pdu['lpcn']} slot {pdu['slot']} to {names.in_text(str(granted_parties(pdu)))}"
     if pdu.name == "P_CLEAR":
-        return f"P_CLEAR, called {pdu['target']}"
+        return f"P_CLEAR, called {names.beside(called_kind(bool(pdu['group'])), pdu['target'])}"
     if pdu.name == "C_AHOY":
-        return f"C_AHOY to {pdu['called']} from {pdu['calling']}"
+        return f"C_AHOY to {radio(pdu['called'])} from {radio(pdu['calling'])}"
     if pdu.name == "C_RAND":
-        return f"C_RAND of {pdu['source']} to {pdu['target']}, kind {pdu['kind']}"
+        return f"C_RAND of {radio(pdu['source'])} to {names.beside(called_kind(pdu['kind'] == pdus.TALKGROUP_VOICE), pdu['target'])}, kind {pdu['kind']}"
     if pdu.name == "C_ACKU":
-        return f"C_ACKU of {pdu['additional']} to {pdu['target']}, reason {pdu['reason']:02X}"
+        return f"C_ACKU of {radio(pdu['additional'])} to {radio(pdu['target'])}, reason {pdu['reason']:02X}"
     return event.octets.hex().upper() if pdu.name == pdus.OTHER else pdu.name
 
 
@@ -137,14 +143,15 @@ class DrawnCalls(Protocol):
 
 class Session:
     """What is drawn: inputs and events over a site, its calls, its clock, and how many ticks it has. Without `calls` they are those that the events, of a
-    replay, show. `has_ticks` is false if the ticks are not the site's, but milliseconds of records; then `gaps` are the times without records."""
+    replay, show. `has_ticks` is false if the ticks are not the site's, but milliseconds of records; then `gaps` are the times without records. `names` are
+    those that stand beside numbers."""
 
     def __init__(self, plan: dict[str, Any], inputs: list[Input], events: list[Event], clock: Clock, calls: DrawnCalls | None = None, has_ticks: bool = True,
-                 gaps: Sequence[Gap] = ()) -> None:
+                 gaps: Sequence[Gap] = (), names: Names = NO_NAMES) -> None:
         self.plan, self.inputs, self.events, self.clock = plan, inputs, events, clock
         self.calls: DrawnCalls = calls or Calls(plan, events)
         self.ticks = sum(it.count for it in inputs)
-        self.has_ticks, self.gaps = has_ticks, gaps
+        self.has_ticks, self.gaps, self.names = has_ticks, gaps, names
 
 
 class Drawing:
@@ -152,7 +159,7 @@ class Drawing:
 
     def __init__(self, session: Session, window: Window) -> None:
         self.plan, self.events, self.calls, self.clock = session.plan, session.events, session.calls, session.clock
-        self.window, self.has_ticks = window, session.has_ticks
+        self.window, self.has_ticks, self.names = window, session.has_ticks, session.names
         self.axis: Axis | TimeAxis = Axis(session.inputs, window, session.clock)
         self.gaps: list[tuple[Gap, float, float]] = []
         if not session.has_ticks:
@@ -210,11 +217,18 @@ class Drawing:
             control = slot == (self.plan.get("control"), 0)
             self.put("rect", x=LEFT, y=self.above(slot) + 1, width=self.axis.end - LEFT, height=ROW - 2, class_="control" if control else "row")
             self.put("text", text=f"carrier {slot[0]} slot {slot[1]}", x=6, y=self.above(slot) + 13)
-            if control:
-                self.put("text", text="control", x=6, y=self.above(slot) + 23, class_="small")
+            below = [*(["control"] if control else []), *self.carrier_names(slot)]
+            if below:
+                self.put("text", text=" ".join(below), x=6, y=self.above(slot) + 23, class_="small")
         for what in self.lanes:
             self.put("text", text=LANES[what], x=6, y=self.above_lane(what) + 16)
         self.draw_axis()
+
+    def carrier_names(self, slot: SlotKey) -> Iterator[str]:
+        """The name of a carrier, as far as it fits below the name of its first row."""
+        name = self.names.name_of(Kind.CARRIER, slot[0])
+        if name and not slot[1]:
+            yield cut_text(name, NAME_COLUMNS)
 
     def draw_axis(self) -> None:
         """The numbers of ticks, if they are the site's, and the clock times above them, if they are known."""
@@ -241,7 +255,7 @@ class Drawing:
                 if event.what == "up":
                     self.draw_outage(carrier, since, across)
                 if event.what != "stopped" and self.window.has(event.tick):
-                    self.put("line", title=f"carrier {carrier} {event.what} {event.text} at {self.at_tick(event.tick)}", x1=across, y1=self.above((carrier, 0)), x2=across,
+                    self.put("line", title=f"carrier {self.names.beside(Kind.CARRIER, carrier)} {event.what} {event.text} at {self.at_tick(event.tick)}", x1=across, y1=self.above((carrier, 0)), x2=across,
                              y2=self.above((carrier, 1)) + ROW, class_=event.what)
                 since = across
             if not changes or changes[-1].what != "up":
@@ -250,7 +264,7 @@ class Drawing:
     def draw_outage(self, carrier: int, begins: float, ends: float) -> None:
         """Grey on both slots of a carrier."""
         if ends > begins:
-            self.put("rect", title=f"carrier {carrier} is not up", x=begins, y=self.above((carrier, 0)) + 1, width=ends - begins, height=2 * ROW - 2, class_="down")
+            self.put("rect", title=f"carrier {self.names.beside(Kind.CARRIER, carrier)} is not up", x=begins, y=self.above((carrier, 0)) + 1, width=ends - begins, height=2 * ROW - 2, class_="down")
 
     def draw_gaps(self) -> None:
         """Hatching over all rows for the times that are not recorded: nobody knows what was so."""
@@ -270,14 +284,17 @@ class Drawing:
                 continue
             begins = self.axis.at[first.index]
             across = max((self.axis.at[last.index] if last else self.axis.end) - begins, 2.0)
-            self.put("rect", title=f"{parties}: {call.why}", x=begins, y=self.above(slot) + 4, width=across, height=ROW - 10, class_="call", fill=colour)
-            text = parties if across > 6 * len(parties) else parties.split(" from ")[0]
-            if across > 6 * len(text):
+            shown = self.names.in_text(parties)
+            self.put("rect", title=f"{shown}: {call.why}", x=begins, y=self.above(slot) + 4, width=across, height=ROW - 10, class_="call", fill=colour)
+            called = parties.split(" from ")[0]
+            # the longest text that fits the bar
+            text = next((it for it in (shown, self.names.in_text(called), parties, called) if across > 6 * columns_of(it)), "")
+            if text:
                 self.put("text", text=text, x=begins + 3, y=self.above(slot) + 16)
 
     def draw_event(self, index: int, event: Event) -> None:
         """The mark of an event."""
-        across, title = self.axis.at[event.index], f"{self.at_tick(event.tick)}: {event_in_words(event)}"
+        across, title = self.axis.at[event.index], f"{self.at_tick(event.tick)}: {event_in_words(event, self.names)}"
         if event.what == "said":
             self.put("circle", title=title, cx=across + 3, cy=float(self.above_lane("said") + ROW / 2), r=3, class_="said")
         elif event.what == "radio":

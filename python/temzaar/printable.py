@@ -1,6 +1,41 @@
-"""Text that came from outside, as a terminal may show it."""
+"""Text that came from outside, as a terminal or a spreadsheet may show it; and how many columns of a terminal it takes."""
+import unicodedata
+
+# What a cell of CSV begins with if a spreadsheet takes it for a formula.
+FORMULA = ("=", "+", "-", "@", "\t", "\r", "\n")
+# In the place of what does not fit.
+CUT = ".."
 
 
 def printable(text: str) -> str:
     """A text without characters that move the cursor of a terminal, or command it: they are escaped as `\\xHH`."""
     return text if text.isprintable() else "".join(it if it.isprintable() else f"\\x{ord(it):02x}" for it in text)
+
+
+def safe_cell(value: str | int | float | None) -> str | int | float | None:
+    """A cell of CSV that no terminal takes for a command, and no spreadsheet for a formula."""
+    if not isinstance(value, str):
+        return value
+    return f"'{printable(value)}" if value.startswith(FORMULA) else printable(value)
+
+
+def columns_of(text: str) -> int:
+    """How many columns of a terminal a text takes: wide characters two each, combining ones none."""
+    if text.isascii():
+        return len(text)
+    return sum(0 if unicodedata.combining(it) else 2 if unicodedata.east_asian_width(it) in "WF" else 1 for it in text)
+
+
+def cut_text(text: str, columns: int) -> str:
+    """A text that takes at most `columns`; one that is wider ends with CUT."""
+    if columns_of(text) <= columns:
+        return text
+    kept = text
+    while kept and columns_of(kept) > columns - len(CUT):
+        kept = kept[:-1]
+    return f"{kept.rstrip()}{CUT}"
+
+
+def padded(text: str, columns: int) -> str:
+    """A text with blanks after it up to a number of columns."""
+    return text + " " * max(0, columns - columns_of(text))

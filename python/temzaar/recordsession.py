@@ -13,6 +13,7 @@ from temzaar.clock import Clock, ClockFault, Window
 from temzaar.drawing import Gap as DrawnGap, Session
 from temzaar.grants import Call, Parties
 from temzaar.moments import local_time, read_moment, short_text
+from temzaar.names import NO_NAMES, Names, named
 from temzaar.printable import printable
 from temzaar.recordgaps import RESTARTED, Gap, find_gaps, gaps_within
 from temzaar.records import RecordedCall, RecordedEvent, RecordedTerm, RecordsFault, opened_records
@@ -119,13 +120,15 @@ def carrier_happenings(period: Period) -> Iterator[Happening]:
             up.discard(event.carrier)
 
 
-def happening_of(event: RecordedEvent) -> Happening | None:
+def happening_of(event: RecordedEvent, names: Names) -> Happening | None:
     """What a picture has of an event of a radio or an operator; None for another kind."""
     if event.kind in RADIO_EVENTS:
-        return Happening(event.at_ms, "radio", text=f"radio {event.radio} {RADIO_EVENTS[event.kind]}")
+        return Happening(event.at_ms, "radio", text=f"{names.in_text(f'radio {event.radio}')} {RADIO_EVENTS[event.kind]}")
     if event.kind == "refused":
         reason = "no reason" if event.reason is None else pdus.reason_in_words(event.reason)
-        return Happening(event.at_ms, "radio", text=f"the request of radio {event.radio} to {event.target} was refused: {reason}")
+        # the records do not say whether it was to a radio or to a talkgroup
+        target = named(str(event.target), names.of_address(event.target))
+        return Happening(event.at_ms, "radio", text=f"the request of {names.in_text(f'radio {event.radio}')} to {target} was refused: {reason}")
     if event.kind in COMMANDS:
         command, *columns = COMMANDS[event.kind]
         words = [command, *(str(getattr(event, column)) for column in columns)]
@@ -141,9 +144,9 @@ def call_happenings(period: Period) -> Iterator[Happening]:
             yield Happening(call.ended_ms, "ended", call.carrier, call.slot, call=place)
 
 
-def happenings(period: Period) -> list[Happening]:
+def happenings(period: Period, names: Names) -> list[Happening]:
     """All that a picture shows, in the order of time. Of events before the period there are those that say which carriers are up."""
-    shown = (happening_of(it) for it in period.events if it.at_ms >= period.from_ms)
+    shown = (happening_of(it, names) for it in period.events if it.at_ms >= period.from_ms)
     return sorted([*carrier_happenings(period), *call_happenings(period), *(it for it in shown if it)], key=lambda it: (it.at_ms, ORDER.index(it.what)))
 
 
@@ -184,16 +187,16 @@ def plan_of_records(period: Period, plan: dict[str, Any] | None) -> dict[str, An
     return {**(plan or {}), "carrier": [*rows, *({"number": number} for number in sorted(named - {row["number"] for row in rows}))]}
 
 
-def session_of(period: Period, plan: dict[str, Any] | None) -> Session:
+def session_of(period: Period, plan: dict[str, Any] | None, names: Names = NO_NAMES) -> Session:
     """The session of a period, over the carriers of a site file and those that the records name."""
-    found = happenings(period)
+    found = happenings(period, names)
     ticks = [period.tick_of(it.at_ms) for it in found]
     inputs, places = inputs_of(ticks, period.tick_of(period.to_ms))
     events = [Event(places[n], ticks[n], it.what, it.carrier, it.slot, text=it.text) for n, it in enumerate(found)]
     begins = local_time(period.origin_ms)
     clock = Clock(1, begins.replace(tzinfo=None).isoformat() if begins else None)
     gaps = [DrawnGap(period.tick_of(it.from_ms), period.tick_of(it.to_ms), it.why) for it in gaps_within(period.gaps, period.from_ms, period.to_ms)]
-    return Session(plan_of_records(period, plan), inputs, events, clock, RecordedCalls(period, found), has_ticks=False, gaps=gaps)
+    return Session(plan_of_records(period, plan), inputs, events, clock, RecordedCalls(period, found), has_ticks=False, gaps=gaps, names=names)
 
 
 def window_of(session: Session) -> Window:

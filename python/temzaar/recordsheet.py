@@ -7,7 +7,8 @@ from enum import Enum
 from typing import Any
 
 from temzaar.moments import iso_text, short_text
-from temzaar.printable import printable
+from temzaar.names import CALL_FIELDS, NAME_COLUMNS, NO_NAMES, Kind, Names, called_kind, named
+from temzaar.printable import columns_of, padded, printable, safe_cell
 from temzaar.recordgaps import Gap
 from temzaar.records import RecordedCall, Where
 
@@ -17,8 +18,6 @@ TABLE = ("number", "began", "seconds", "slot", "kind", "source", "target", "caus
 RIGHT = ("number", "seconds")
 # The gaps that are listed: the newest.
 MOST_GAPS = 20
-# What a cell of CSV begins with if a spreadsheet takes it for a formula.
-FORMULA = ("=", "+", "-", "@", "\t", "\r", "\n")
 
 
 class SheetFormat(Enum):
@@ -47,10 +46,11 @@ class CallQuery:
         return " AND ".join(text for text, _, _ in asked) or "1", [value for _, value, count in asked for _ in range(count)]
 
 
-def call_row(call: RecordedCall) -> dict[str, str | int | float | None]:
-    """The columns of a call. A time that the calendar does not have is None."""
-    return {"number": call.number, "term": call.term, "began": iso_text(call.began_ms), "ended": iso_text(call.ended_ms), "seconds": call.duration_ms / 1000,
+def call_row(call: RecordedCall, names: Names | None) -> dict[str, str | int | float | None]:
+    """The columns of a call. A time that the calendar does not have is None, as is a name that nothing has."""
+    row = {"number": call.number, "term": call.term, "began": iso_text(call.began_ms), "ended": iso_text(call.ended_ms), "seconds": call.duration_ms / 1000,
             "carrier": call.carrier, "slot": call.slot, "kind": kind_of(call), "source": call.source, "target": call.target, "cause": call.cause}
+    return row if names is None else {**row, **names.of_call(called_kind(call.is_group), call.source, call.target, call.carrier)}
 
 
 def kind_of(call: RecordedCall) -> str:
@@ -58,24 +58,18 @@ def kind_of(call: RecordedCall) -> str:
     return "talkgroup" if call.is_group else "individual"
 
 
-def safe_cell(value: str | int | float | None) -> str | int | float | None:
-    """A cell of CSV that no terminal takes for a command, and no spreadsheet for a formula."""
-    if not isinstance(value, str):
-        return value
-    return f"'{printable(value)}" if value.startswith(FORMULA) else printable(value)
-
-
-def table_cells(call: RecordedCall) -> dict[str, str]:
+def table_cells(call: RecordedCall, names: Names) -> dict[str, str]:
     """The cells of a call in the table."""
-    return {"number": str(call.number), "began": short_text(call.began_ms), "seconds": f"{call.duration_ms / 1000:.1f}", "slot": f"{call.carrier}/{call.slot}",
-            "kind": kind_of(call), "source": str(call.source), "target": str(call.target), "cause": printable(call.cause)}
+    return {"number": str(call.number), "began": short_text(call.began_ms), "seconds": f"{call.duration_ms / 1000:.1f}", "slot": named(f"{call.carrier}/{call.slot}", names.name_of(Kind.CARRIER, call.carrier), NAME_COLUMNS), "kind": kind_of(call),
+            "source": names.beside(Kind.RADIO, call.source, NAME_COLUMNS), "target": names.beside(called_kind(call.is_group), call.target, NAME_COLUMNS),
+            "cause": printable(call.cause)}
 
 
-def text_table(calls: list[RecordedCall]) -> str:
+def text_table(calls: list[RecordedCall], names: Names) -> str:
     """The calls as a table for people."""
-    rows = [dict(zip(TABLE, TABLE, strict=True)), *map(table_cells, calls)]
-    widths = {name: max(len(row[name]) for row in rows) for name in TABLE}
-    lines = ["  ".join(f"{row[name]:{'>' if name in RIGHT else '<'}{widths[name]}}" for name in TABLE).rstrip() for row in rows]
+    rows = [dict(zip(TABLE, TABLE, strict=True)), *(table_cells(it, names) for it in calls)]
+    widths = {name: max(columns_of(row[name]) for row in rows) for name in TABLE}
+    lines = ["  ".join(row[name].rjust(widths[name]) if name in RIGHT else padded(row[name], widths[name]) for name in TABLE).rstrip() for row in rows]
     return "".join(f"{line}\n" for line in lines)
 
 
@@ -87,19 +81,19 @@ def lines_below(gaps: list[Gap], until_ms: int | None) -> list[str]:
     return [*more, *(it.in_words() for it in gaps[-MOST_GAPS:]), f"recorded up to {short_text(until_ms)}; the term that is running is not in it"]
 
 
-def csv_text(calls: list[RecordedCall]) -> str:
+def csv_text(calls: list[RecordedCall], names: Names | None) -> str:
     """The calls as CSV, with a line of the names of the columns."""
     out = io.StringIO(newline="")
-    writer = csv.DictWriter(out, COLUMNS, lineterminator="\n")
+    writer = csv.DictWriter(out, COLUMNS if names is None else (*COLUMNS, *CALL_FIELDS), lineterminator="\n")
     writer.writeheader()
-    writer.writerows({name: safe_cell(value) for name, value in call_row(it).items()} for it in calls)
+    writer.writerows({name: safe_cell(value) for name, value in call_row(it, names).items()} for it in calls)
     return out.getvalue()
 
 
-def write_sheet(calls: list[RecordedCall], form: SheetFormat) -> str:
-    """The calls in a format."""
+def write_sheet(calls: list[RecordedCall], form: SheetFormat, names: Names | None = None) -> str:
+    """The calls in a format, with their names if there are any."""
     if form is SheetFormat.TABLE:
-        return text_table(calls)
+        return text_table(calls, names or NO_NAMES)
     if form is SheetFormat.CSV:
-        return csv_text(calls)
-    return json.dumps([call_row(it) for it in calls], indent=2) + "\n"
+        return csv_text(calls, names)
+    return json.dumps([call_row(it, names) for it in calls], indent=2) + "\n"

@@ -16,10 +16,10 @@ from datetime import datetime
 
 from temzaar.cli.callbook import main
 from temzaar.moments import MomentFault, iso_text, join_times, read_moment, short_text
-from temzaar.printable import printable
+from temzaar.printable import printable, safe_cell
 from temzaar.recordgaps import LOST, RESTARTED, Gap, find_gaps
 from temzaar.records import CAUSES, VERSION, opened_records
-from temzaar.recordsheet import lines_below, safe_cell
+from temzaar.recordsheet import lines_below
 from tests.made_records import CALLS, EVENTS, NOON, REGISTRATIONS, TERMS, TABLES, add_term, locked, make_records, zone
 from tests.support import call_tool, read_document, table_rows
 
@@ -31,6 +31,14 @@ number  began                seconds  slot  kind        source  target  cause
      3  2026-11-27 13:59:54     12.0  1/1   talkgroup   1003    92      carrier_lost
      4  2026-11-27 14:00:09     15.0  0/1   individual  1001    1003    radio_left
      5  2026-11-27 14:01:52     37.5  0/1   talkgroup   1002    91      maximum
+"""
+NAMED_TABLE = """\
+number  began                seconds  slot        kind        source         target                 cause
+     1  2026-11-27 13:59:06      6.0  0/1         talkgroup   1001 [Bus 12]  91 [Linienbus Nord..]  hang_time
+     2  2026-11-27 13:59:18      3.0  1/0 [東京]  individual  1002 [=1+1,a]  1001 [Bus 12]          ended_by_operator
+     3  2026-11-27 13:59:54     12.0  1/1 [東京]  talkgroup   1003           92                     carrier_lost
+     4  2026-11-27 14:00:09     15.0  0/1         individual  1001 [Bus 12]  1003                   radio_left
+     5  2026-11-27 14:01:52     37.5  0/1         talkgroup   1002 [=1+1,a]  91 [Linienbus Nord..]  maximum
 """
 GAP = "no records from 2026-11-27 14:00:30 to 2026-11-27 14:01:40, 70.0 s: the controller was started again\n"
 UNTIL = "recorded up to 2026-11-27 14:02:40; the term that is running is not in it\n"
@@ -94,6 +102,24 @@ class Printed(RecordsCase):
         self.assertEqual(rows[0], {"number": 4, "term": 2, "began": "2026-11-27T14:00:09.000+02:00", "ended": "2026-11-27T14:00:24.000+02:00", "seconds": 15.0,
                                    "carrier": 0, "slot": 1, "kind": "individual", "source": 1001, "target": 1003, "cause": "radio_left"})
         self.assertEqual(rows[1]["number"], 5)
+
+    def test_names(self) -> None:
+        """With names: beside the numbers of the table, cut to their column; in CSV and JSON after the other columns, which stay as they are."""
+        names = self.folder / "names.csv"
+        names.write_text("kind,number,name\nradio,1001,Bus 12\nradio,1002,\"=1+1,a\"\nradio,1003\ntalkgroup,91,Linienbus Nordring Süd\ntalkgroup,1001,nobody\ncarrier,1,東京\n", encoding="utf-8")
+        words = ["--records", str(self.path), "--names", str(names)]
+        done = call_tool(main, *words)
+        self.assertEqual((done.returncode, done.stdout), (0, NAMED_TABLE + GAP + UNTIL))
+        self.assertEqual(done.stderr, f"callbook: {names}: line 4: not kind,number,name, three fields with commas between them\n")
+        plain, named = (call_tool(main, *words[:count], "--format", "csv").stdout.splitlines() for count in (2, 4))
+        self.assertEqual([line[:len(before)] for before, line in zip(plain, named, strict=True)], plain)
+        self.assertEqual([line[len(before):] for before, line in zip(plain, named, strict=True)],
+                         [",source_name,target_name,carrier_name", ",Bus 12,Linienbus Nordring Süd,", ",\"'=1+1,a\",Bus 12,東京", ",,,東京", ",Bus 12,,", ",\"'=1+1,a\",Linienbus Nordring Süd,"])
+        rows, before = (json.loads(call_tool(main, *words[:count], "--format", "json").stdout) for count in (4, 2))
+        self.assertEqual([{name: value for name, value in row.items() if name not in ("source_name", "target_name", "carrier_name")} for row in rows], before)
+        self.assertEqual([*rows[1]][-3:], ["source_name", "target_name", "carrier_name"])
+        self.assertEqual((rows[1]["source_name"], rows[1]["target_name"], rows[2]["source_name"], rows[2]["carrier_name"]), ("=1+1,a", "Bus 12", None, "東京"))
+        self.expect_fault(f"{self.folder}/none: No such file or directory", "--names", f"{self.folder}/none")
 
     def test_no_call(self) -> None:
         for form, printed in (("table", TABLE.split("\n")[0].split()), ("csv", ["number,term,began,ended,seconds,carrier,slot,kind,source,target,cause"]), ("json", ["[]"])):

@@ -72,6 +72,23 @@ class RecordsTimeline(unittest.TestCase):
             with self.subTest(words):
                 self.assertEqual(titles_of(self.draw(*words)), TITLES)
 
+    def test_names(self) -> None:
+        """Names stand beside the numbers of carriers, calls, radios and commands, as text, whatever is in them. A refused request may be to a radio or to a talkgroup."""
+        names = self.folder / "names.csv"
+        names.write_text("radio,1001,<b>&\nradio,1002,Bus 13\nradio,999,Depot\ntalkgroup,91,Drivers\ntalkgroup,99,Nobody\nradio,99,Somebody\ntalkgroup,1002,Others\n"
+                         "carrier,1,Mast South of the long street\n", encoding="utf-8")
+        svg = self.draw("--names", str(names))
+        titles = {it for found in titles_of(svg).values() for it in found}
+        for title in ("group 91 [Drivers] from 1002 [Bus 13]: maximum", "radio 1001 [&lt;b&gt;&amp;] from 1002 [Bus 13]: ended by operator", "group 92 from 1003: carrier lost",
+                      "carrier 1 [Mast South of the long street] up  at 11:59:00.600", "carrier 1 [Mast South of the long street] is not up", "11:59:01.200: radio 1001 [&lt;b&gt;&amp;] was registered",
+                      "11:59:30.000: the request of radio 1002 [Bus 13] to 99 was refused: group not allowed", "12:02:04.600: operator: drop 999 [Depot]: not registered",
+                      "11:59:21.000: operator: end 1 [Mast South of the long street] 0: done", "12:02:04.000: the request of radio 1004 to 1002 was refused: called party busy"):
+            self.assertIn(title, titles)
+        self.assertIn(">Mast South of..</text>", svg)
+        # a bar has as much of it as fits
+        self.assertIn(">group 91 [Drivers]</text>", svg)
+        self.assertNotIn("<b>", svg)
+
     def test_a_part(self) -> None:
         """A carrier that came up before has no mark for that, and is not grey; the bar of a call that was active already begins at the left edge."""
         svg = self.draw(*PART)

@@ -50,6 +50,23 @@ class Lists(unittest.TestCase):
                                    "kind": "talkgroup", "source": "1001", "target": "91", "cause": "hang time", "waited_ticks": "", "waited_seconds": ""})
         self.assertEqual((rows[3]["waited_ticks"], rows[3]["waited_seconds"], rows[3]["ended"]), ("101", "6.06", ""))
 
+    def test_names(self) -> None:
+        """In the table beside the numbers; in CSV and JSON after the other columns, which stay as they are; in the picture in what marks say."""
+        with tempfile.TemporaryDirectory() as folder:
+            path = os.path.join(folder, "names.csv")
+            pathlib.Path(path).write_text("radio,1001,-Bus 12\ntalkgroup,91,Drivers\ncarrier,0,Mast North\n", encoding="utf-8")
+            table, sheet, rows, svg = (run_example("queued_call", *words, "--start", "10:15", "--names", path).stdout
+                                       for words in (["--calls"], ["--calls", "csv"], ["--calls", "json"], []))
+            fault = run_example("queued_call", "--names", os.path.join(folder, "none"))
+        self.assertEqual(table.splitlines()[1], "0 10:15:00.000    100 10:15:06.000  0/1 [Mast North]  talkgroup  1001 [-Bus 12]  91 [Drivers]  -            hang time")
+        before = run_example("queued_call", "--calls", "csv", "--start", "10:15").stdout.splitlines()
+        self.assertEqual(sheet.splitlines()[:2], [before[0] + ",source_name,target_name,carrier_name", before[1] + ",'-Bus 12,Drivers,Mast North"])
+        self.assertEqual([[*json.loads(rows)[n].values()][-3:] for n in (0, 1)], [["-Bus 12", "Drivers", "Mast North"], [None, None, None]])
+        for text in (">group 91 [Drivers] from 1001 [-Bus 12]: cleared</title>", " to group 91 [Drivers] from 1001 [-Bus 12]</title>", "C_ACKD to 1004", "P_CLEAR, called 91 [Drivers]", ">control Mast North</text>",
+                     "carrier 0 [Mast North] up "):
+            self.assertIn(text, svg)
+        self.assertEqual((fault.returncode, fault.stdout, fault.stderr), (1, "", f"timeline: {folder}/none: No such file or directory\n"))
+
     def test_json_without_a_clock(self) -> None:
         rows = json.loads(run_example("operator", "--calls", "json").stdout)
         self.assertEqual([(row["target"], row["begun"], row["ended"], row["cause"], row["waited_ticks"]) for row in rows],

@@ -4,6 +4,7 @@
     callbook --records site.db --last 20           the last twenty of this file
     callbook --radio 1001 --from 08:00             those that radio 1001 made or received today, since 08:00
     callbook --group 91 --from -2h --format csv    those to talkgroup 91 of the last two hours, as CSV
+    callbook --names names.csv                     with the names of radios, talkgroups and carriers
 
 --from and --to take times of the machine's zone: 2026-11-27 (as --to: to the end of that day), 2026-11-27 08:00, and 08:00, which is today. -2h is two hours
 ago; s, m and d are seconds, minutes and days. A call is printed if it was active at some time between them.
@@ -11,17 +12,19 @@ ago; s, m and d are seconds, minutes and days. A call is printed if it was activ
 Below the calls are the times without records, and up to when the records go: calls of the term that runs are not in the file yet. As CSV and JSON the calls go
 to standard output alone, and these lines to standard error.
 
+With --names a name stands beside its number: in the table 1001 [Bus 12], in CSV and JSON as source_name, target_name and carrier_name after the other columns.
+
 The tool copies the file while it has SQLite's lock of readers, and writes nothing next to it. It needs the right to read the file, as root or the
 controller's user has it.
 
-Status: 0 printed; 1 the file, named on standard error with the reason; 2 the words.
+Status: 0 printed; 1 a file, named on standard error with the reason; 2 the words.
 """
 import argparse
 import sys
 from collections.abc import Sequence
 from datetime import UTC, datetime
 
-from temzaar.cli.command import amount_above, clean_up_on_signals, count_of, parse_words, print_note, run_command
+from temzaar.cli.command import add_names_option, amount_above, clean_up_on_signals, count_of, names_of_words, parse_words, print_note, run_command
 from temzaar.moments import join_times, read_moment
 from temzaar.recordgaps import find_gaps, gaps_within
 from temzaar.records import CAUSES, DEFAULT_PATH, LOCK_SECONDS, opened_records
@@ -43,6 +46,7 @@ def read_words(words: Sequence[str] | None) -> argparse.Namespace:
     parser.add_argument("--from", dest="first", metavar="FROM", help="calls that were active at this time, or later")
     parser.add_argument("--to", dest="last_time", metavar="TO", help="calls that were active at this time, or earlier")
     parser.add_argument("--last", type=count_of(1, MOST_CALLS), metavar="N", help="the newest N of them")
+    add_names_option(parser)
     parser.add_argument("--seconds", type=amount_above(0, 600), default=LOCK_SECONDS, help=f"how long to wait while the controller writes the file ({LOCK_SECONDS:g})")
     return parse_words(parser, join_times(list(sys.argv[1:] if words is None else words), ("--from", "--to")))
 
@@ -57,14 +61,14 @@ def query_of(options: argparse.Namespace) -> CallQuery:
 
 def print_calls(options: argparse.Namespace) -> int:
     """Prints what the words ask for. The status. ToolFault: the file or a time is at fault."""
-    query = query_of(options)
+    query, names = query_of(options), names_of_words("callbook", options)
     with opened_records(options.records, options.seconds) as records:
         calls, gaps = records.calls(query.where(), options.last), find_gaps(records)
         last = records.terms(("number = (SELECT max(number) FROM terms)", []))
     # of the newest calls alone, the gaps since the first of them
     first = query.from_ms if options.last is None or not calls else calls[0].began_ms
     below = lines_below(gaps_within(gaps, first, query.to_ms), last[0].ended_ms if last else None)
-    sys.stdout.write(write_sheet(calls, SheetFormat(options.format)))
+    sys.stdout.write(write_sheet(calls, SheetFormat(options.format), names))
     for line in below:
         if options.format == SheetFormat.TABLE.value:
             print(line)

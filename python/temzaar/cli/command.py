@@ -10,6 +10,7 @@ from collections.abc import Callable, Sequence
 from typing import NoReturn
 
 from temzaar.faults import ToolFault
+from temzaar.names import Names, read_names
 from temzaar.printable import printable
 from temzaar.version import read_version
 
@@ -138,6 +139,21 @@ def finish_after_fault(name: str, text: str, status: int) -> int:
             drop_standard_output()
     print_note(name, text)
     return status
+
+
+def add_names_option(parser: argparse.ArgumentParser) -> None:
+    """Adds the option that names the file of names."""
+    parser.add_argument("--names", metavar="CSV", help="the file of names, to show beside numbers")
+
+
+def names_of_words(name: str, options: argparse.Namespace) -> Names | None:
+    """The names of the file that the words of a command name; None if they name none. Lines that are not used are noted. NamesFault: nothing of it can be used."""
+    if options.names is None:
+        return None
+    found = read_names(options.names)
+    for line in found.notes():
+        print_note(name, line)
+    return found.names
 
 
 def count_of(least: int, most: int) -> Callable[[str], int]:

@@ -28,6 +28,8 @@ records is hatched. The site file is optional: it has the carriers that no recor
 which slot is the control slot. --from and --to are times then: 2026-11-27, 2026-11-27 08:00, 08:00 (today), or -2h (also s, m and d). Without them it is
 all of the file. `callbook` lists the calls of records.
 
+With --names the names of radios, talkgroups and carriers stand beside their numbers; in CSV and JSON they follow the other columns.
+
 Status: 0 drawn; 1 a file, the program, a script whose replay sent nothing, or an output of another script, named on standard error; 2 the words.
 """
 import argparse
@@ -38,11 +40,12 @@ from typing import Any
 
 from temzaar.calls import list_calls
 from temzaar.callsheet import ListFormat, calls_in, write_list
-from temzaar.cli.command import amount_above, clean_up_on_signals, parse_words, run_command
+from temzaar.cli.command import add_names_option, amount_above, clean_up_on_signals, names_of_words, parse_words, run_command
 from temzaar.clock import Clock, Window, recorded_start
 from temzaar.drawing import Drawing, Session
 from temzaar.faults import read_text, write_text
 from temzaar.moments import join_times
+from temzaar.names import NO_NAMES, Names
 from temzaar.process import replay
 from temzaar.recordsession import read_period, session_of, window_of
 from temzaar.script import Replay, SessionFault, read_printed, read_script
@@ -100,22 +103,24 @@ def page_in_words(session: Session, first: int, last: int) -> str:
     return f"ticks {first} to {last} ({times})" if times else f"ticks {first} to {last}"
 
 
-def read_what_is_drawn(options: argparse.Namespace) -> tuple[Session, Window]:
-    """The session and the window that the words name."""
+def read_what_is_drawn(options: argparse.Namespace, names: Names) -> tuple[Session, Window]:
+    """The session and the window that the words name, and names for it."""
     if options.records:
         period = read_period(options.records, options.first, options.last)
-        session = session_of(period, read_plan(options.site) if options.site else None)
+        session = session_of(period, read_plan(options.site) if options.site else None, names)
         return session, window_of(session)
     session = read_files(options)
+    session.names = names
     return session, session.clock.window(options.first, options.last, session.ticks)
 
 
 def draw_files(options: argparse.Namespace) -> int:
     """Draws, or lists, what the words name. The status."""
-    session, window = read_what_is_drawn(options)
+    names = names_of_words("timeline", options)
+    session, window = read_what_is_drawn(options, names or NO_NAMES)
     if options.calls:
         records = calls_in(list_calls(session.plan, session.events), window)
-        write_output(options, write_list(records, session.clock, ListFormat(options.calls)))
+        write_output(options, write_list(records, session.clock, ListFormat(options.calls), names))
     elif options.page:
         draw_pages(options, session, window)
     else:
@@ -138,6 +143,7 @@ def read_words(words: Sequence[str] | None) -> argparse.Namespace:
     parser.add_argument("--to", dest="last", metavar="TO", help="draw or list up to this tick, or time")
     parser.add_argument("--page", type=amount_above(0, 1e6), metavar="MINUTES", help="draw pages of so many minutes, each into a file of its own")
     parser.add_argument("--calls", nargs="?", const="text", choices=[it.value for it in ListFormat], help="list the calls, as text without a word after it, instead of drawing")
+    add_names_option(parser)
     options = parse_words(parser, join_times(list(sys.argv[1:] if words is None else words), ("--from", "--to")))
     check_words(parser, options)
     return options

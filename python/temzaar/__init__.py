@@ -18,6 +18,7 @@ comparison of the two means something. One module per subject, lowest first:
     sitefaults  the faults of a site file, in the order in which the controller judges
     sitefigures  what a site file amounts to: times in seconds, and counts
     siterisks   what is risky in a site file
+    namerisks   what is risky in a file of names
     sitereport  what a check of a site file prints
     script      scripts and printed replays
     console     an operator's console

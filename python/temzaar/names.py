@@ -184,7 +184,7 @@ def numbered_lines(octets: bytes) -> Iterator[tuple[int, str]]:
 
 
 def parse_names(octets: bytes, path: str) -> NamesFile:
-    """The names of a file's octets. NamesFault: there are lines, and none of them is right."""
+    """The names of a file's octets, and its bad lines."""
     found: dict[Bearer, str] = {}
     lines: dict[Bearer, int] = {}
     bad: list[BadLine] = []
@@ -203,16 +203,20 @@ def parse_names(octets: bytes, path: str) -> NamesFile:
                 bad.append(BadLine(number, str(fault)))
             if number > MOST_LINES:
                 break
-    if bad and not found:
-        raise NamesFault(f"{printable(bad[0].in_words(path))}; no line of the file is right")
     return NamesFile(path, names_of(found.items()), MappingProxyType(lines), tuple(bad), bad_count)
 
 
-def read_names(path: str) -> NamesFile:
-    """The names of a file. NamesFault: it cannot be read, is too large, or no line of it is right."""
+def scan_names(path: str) -> NamesFile:
+    """The names of a file, and its bad lines. NamesFault: it cannot be read, or is too large."""
     try:
         return parse_names(read_octets(path, MOST_OCTETS), path)
-    except NamesFault:
-        raise
     except ToolFault as fault:
         raise NamesFault(str(fault)) from fault
+
+
+def read_names(path: str) -> NamesFile:
+    """The same, to be used. NamesFault: also if there are lines, and none of them is right: it is a file of something else."""
+    found = scan_names(path)
+    if found.bad and not found.names:
+        raise NamesFault(f"{printable(found.bad[0].in_words(path))}; no line of the file is right")
+    return found

@@ -6,6 +6,7 @@ from collections.abc import Iterator
 from dataclasses import dataclass, field
 from typing import Any
 
+from temzaar.namerisks import NamesCheck
 from temzaar.sitefaults import MOST_FAULTS, Fault
 from temzaar.sitefigures import Line
 from temzaar.siterisks import Risk
@@ -68,6 +69,7 @@ class Report:
     verdict: Verdict | None = None
     # why the controller gave no verdict, if it was asked
     silence: str = ""
+    names: NamesCheck | None = None
 
     @property
     def fault(self) -> str | None:
@@ -90,7 +92,12 @@ class Report:
             return Status.DISAGREES
         if self.faults:
             return Status.FAULTS
-        return Status.WARNINGS if self.is_strict and self.risks else Status.RIGHT
+        return status_of_warnings(self.is_strict, bool(self.risks) or self.names is not None and bool(self.names.risks))
+
+
+def status_of_warnings(is_strict: bool, are_there: bool) -> Status:
+    """The exit status if there is no fault."""
+    return Status.WARNINGS if is_strict and are_there else Status.RIGHT
 
 
 def printable(text: str) -> str:
@@ -98,10 +105,26 @@ def printable(text: str) -> str:
     return "".join(it if it.isprintable() else " " if it == "\t" else "\N{REPLACEMENT CHARACTER}" for it in text)
 
 
-def counted(count: int, noun: str) -> str:
-    """A count and its noun."""
-    more = " or more" if count == MOST_FAULTS else ""
+def counted(count: int, noun: str, most: int | None = MOST_FAULTS) -> str:
+    """A count and its noun. If it is `most`, it was not counted on."""
+    more = " or more" if count == most else ""
     return f"{count}{more} {noun}{'' if count == 1 else 's'}"
+
+
+def styled(text: str, style: Style, has_colours: bool) -> str:
+    """A text in its style."""
+    return f"\033[{style.value}m{text}\033[0m" if has_colours else text
+
+
+def name_lines(names: NamesCheck, has_colours: bool) -> Iterator[str]:
+    """The lines of a check of names: a line for each warning, and how many there are."""
+    path = printable(names.path)
+    for risk in names.risks:
+        place = styled(f"{path}:{risk.line}:", Style.PLACE, has_colours)
+        yield f"{place} {styled('warning:', Style.WARNING, has_colours)} {risk.name}: {printable(risk.reason)}"
+    if names.more:
+        yield f"{path}: {names.more} more warnings are not listed"
+    yield f"{path}: {counted(names.count, 'name', None)}, {counted(len(names.risks) + names.more, 'warning', None)}"
 
 
 class TextReport:
@@ -112,7 +135,7 @@ class TextReport:
 
     def styled(self, text: str, style: Style) -> str:
         """A text in its style."""
-        return f"\033[{style.value}m{text}\033[0m" if self.has_colours else text
+        return styled(text, style, self.has_colours)
 
     def lines(self) -> Iterator[str]:
         """All lines."""
@@ -122,6 +145,8 @@ class TextReport:
             yield from self.risk_lines(risk)
         if self.report.lines:
             yield from self.table_lines()
+        if self.report.names:
+            yield from name_lines(self.report.names, self.has_colours)
         yield self.summary()
         if self.report.verdict:
             yield from self.verdict_lines(self.report.verdict)
@@ -192,6 +217,11 @@ def row_as_json(found: Fault | Risk) -> dict[str, int | None]:
     return {"table": found.row.table if found.row else None, "carrier": found.row.number if found.row else None}
 
 
+def names_as_json(names: NamesCheck) -> dict[str, Any]:
+    """A check of names for machines."""
+    return {"file": names.path, "names": names.count, "warnings": [dataclasses.asdict(it) for it in names.risks], "more_warnings": names.more}
+
+
 def report_as_json(report: Report) -> str:
     """The report for machines: one object, on one line."""
     faults = [{"text": it.text, "key": it.key or None, "detail": it.detail, "do": it.hint or None, "first": number == 0, **place_as_json(it.place), **row_as_json(it)}
@@ -203,6 +233,8 @@ def report_as_json(report: Report) -> str:
         "file": report.name, "status": int(report.status()), "fault": report.fault, "faults": faults, "warnings": warnings,
         "controller": said, "no_verdict": report.silence or None,
     }
+    if report.names:
+        whole["names"] = names_as_json(report.names)
     if report.lines:
         whole["values"] = [dataclasses.asdict(it) for it in report.lines]
     return json.dumps(whole) + "\n"

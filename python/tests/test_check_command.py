@@ -27,6 +27,7 @@ FILE:5:1: warning: unknown-key: the controller does not know `hnag`, and ignores
     do: did you mean `hang`?
 FILE: 2 faults, 1 warning
 """
+NAMES = "radio,1001,Bus 12\nradio,5,Bus 5\ntalkgroup,7,x\ncarrier,9,y\nz\ntalkgroup,91,Drivers\nradio,1002,\n"
 ACCEPTS = 'printf "carrier 0 -\\ncarrier 1 -\\n"'
 REFUSES = 'echo "dmr_trunk: site file: missing hang" >&2; exit 1'
 
@@ -81,6 +82,44 @@ class Reports(Command):
         done = self.check(path)
         self.assertEqual((done.returncode, done.stderr), (1, ""))
         self.assertEqual(done.stdout, SHOWN.replace("FILE", path))
+
+    def test_names(self) -> None:
+        """Each line that is not used, and each name for what the site does not have, by its line; alone, and with a site file."""
+        path = self.site(NAMES, "names.csv")
+        unused = f"{path}:5: warning: unused-line: not kind,number,name, three fields with commas between them\n{path}:7: warning: unused-line: the name is empty\n"
+        alone = f"{unused}{path}: 5 names, 2 warnings\n"
+        for words, status in ((["--names", path], 0), (["--names", path, "--strict"], 3)):
+            done = self.check(*words)
+            self.assertEqual((done.returncode, done.stdout, done.stderr), (status, alone, ""))
+        both = (f"{path}:2: warning: unknown-radio: radio 5 is in no range of `radios`: it cannot register\n{path}:3: warning: unknown-talkgroup: talkgroup 7 is not in `groups`: nobody can call it\n"
+                f"{path}:4: warning: unknown-carrier: no `[[carrier]]` has the number 9\n{unused}{path}: 5 names, 5 warnings\n{TWO_CARRIERS}: right, 0 warnings\n")
+        for words, status in ((["--names", path, TWO_CARRIERS], 0), (["--names", path, "--strict", TWO_CARRIERS], 3)):
+            done = self.check(*words)
+            self.assertEqual((done.returncode, done.stdout, done.stderr), (status, both, ""))
+        # what a site file that is refused has is not known
+        self.expect(["--names", path, self.site(FAULTY)], 1, "2 faults, 1 warning\n")
+        self.assertIn(f"{path}: 5 names, 2 warnings\n", self.check("--names", path, self.site(FAULTY)).stdout)
+        self.expect(["--names", self.site("x\n", "other.csv"), TWO_CARRIERS], 0, f"other.csv: 0 names, 1 warning\n{TWO_CARRIERS}: right, 0 warnings\n")
+        self.expect(["--names", path + "x", TWO_CARRIERS], 2, "", f"check: {path}x: No such file or directory\n")
+        self.assertEqual(self.check().stderr.splitlines()[-1], "check: error: the following arguments are required: SITE_FILE")
+
+    def test_names_for_machines(self) -> None:
+        path = self.site(NAMES, "names.csv")
+        alone, both = (json.loads(self.check("--json", "--names", path, *words).stdout) for words in ([], [TWO_CARRIERS]))
+        self.assertEqual((alone["status"], alone["names"]["file"], alone["names"]["names"], alone["names"]["more_warnings"]), (0, path, 5, 0))
+        self.assertEqual(alone["names"]["warnings"][1], {"name": "unused-line", "line": 7, "reason": "the name is empty"})
+        self.assertEqual([(it["name"], it["line"]) for it in both["names"]["warnings"]], [("unknown-radio", 2), ("unknown-talkgroup", 3), ("unknown-carrier", 4), ("unused-line", 5), ("unused-line", 7)])
+        self.assertNotIn("names", json.loads(self.check("--json", TWO_CARRIERS).stdout))
+
+    def test_many_names(self) -> None:
+        """A thousand warnings are listed, and the others counted."""
+        path = self.site("".join(f"radio,{it},a\n" for it in range(5000, 6000)) + "x\n" * 1500, "names.csv")
+        lines = self.check("--names", path, TWO_CARRIERS).stdout.splitlines()
+        self.assertEqual((len(lines), lines[-3], lines[-2]), (1003, f"{path}: 1500 more warnings are not listed", f"{path}: 1000 names, 2500 warnings"))
+
+    def test_the_example_of_names(self) -> None:
+        done = self.check("--names", str(SITES / "names.csv"), "--strict", TWO_CARRIERS)
+        self.assertEqual((done.returncode, done.stdout.splitlines()[0]), (0, f"{SITES}/names.csv: 8 names, 0 warnings"))
 
     def test_not_toml(self) -> None:
         path = self.site("a = 1\nb =")

@@ -82,11 +82,14 @@ class Bad(unittest.TestCase):
 
     def test_no_right_line(self) -> None:
         """A file of something else is a fault, and not a file without names."""
-        for octets, said in ((b"\x7fELF\x02", "not kind,number,name"), ("radio,1,Bus".encode("utf-16"), "the kind is not"), (b"radio,0,a\nradio,0,b\n", "the number of a radio")):
-            with self.assertRaises(NamesFault) as caught:
-                parse_names(octets, "a\x1bb")
-            self.assertTrue(str(caught.exception).startswith(f"a\\x1bb: line 1: {said}"), caught.exception)
-            self.assertTrue(str(caught.exception).endswith("; no line of the file is right"))
+        with tempfile.TemporaryDirectory() as folder:
+            path = pathlib.Path(folder, "a\x1bb")
+            for octets, said in ((b"\x7fELF\x02", "not kind,number,name"), ("radio,1,Bus".encode("utf-16"), "the kind is not"), (b"radio,0,a\nradio,0,b\n", "the number of a radio")):
+                path.write_bytes(octets)
+                with self.assertRaises(NamesFault) as caught:
+                    read_names(str(path))
+                self.assertTrue(str(caught.exception).startswith(f"{folder}/a\\x1bb: line 1: {said}"), caught.exception)
+                self.assertTrue(str(caught.exception).endswith("; no line of the file is right"))
 
     def test_too_many_lines(self) -> None:
         """The names up to the greatest number of lines are used."""

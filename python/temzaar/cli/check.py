@@ -3,9 +3,12 @@
     check site.toml                         the faults and the warnings
     check --explain site.toml               the values too, with times in seconds
     check --controller build/dmr_trunk -    standard input, and the controller's own verdict at the end
+    check --names names.csv site.toml       the names of radios, talkgroups and carriers too; or without the site file, these alone
 
 A fault is what the controller refuses. It reports the first one alone, and here that one is marked. A warning is what it accepts, and an operator may not have
 meant: each says why, and what to do. Keys that the controller does not know are among them, since it ignores them.
+
+With --names each line of that file that is not used is a warning. So is a name for a radio, a talkgroup or a carrier that the site file does not have.
 
 The controller that --controller names, or else the dmr_trunk on the PATH, has the last word: it replays an empty script over the file. If it disagrees, that is
 a fault of this tool.
@@ -13,9 +16,10 @@ a fault of this tool.
 Status: 0 right; 1 faults; 2 the words, or a file or program that cannot be read or run; 3 warnings, with --strict; 4 the controller disagrees.
 
 With --json standard output is one object: `status`, the controller's text as `fault`, the lists `faults` and `warnings` with `line` and `column`, and
-`controller`; with --explain also `values`. `no_verdict` says why the controller gave none.
+`controller`; with --explain also `values`. `no_verdict` says why the controller gave none. With --names also `names`: the number of names, and `warnings` with `line`.
 """
 import argparse
+import json
 import os
 import shutil
 import subprocess
@@ -24,12 +28,14 @@ import tempfile
 from collections.abc import Sequence
 from typing import BinaryIO
 
-from temzaar.cli.command import clean_up_on_signals, parse_words, run_command
+from temzaar.cli.command import add_names_option, clean_up_on_signals, parse_words, run_command
 from temzaar.faults import ToolFault
 from temzaar.frames import VERSIONS
+from temzaar.namerisks import check_names
+from temzaar.names import scan_names
 from temzaar.sitefaults import find_faults
-from temzaar.sitefigures import explain_site
-from temzaar.sitereport import REFUSAL, Report, Status, Verdict, report_as_json, report_as_text
+from temzaar.sitefigures import Figures, explain_site
+from temzaar.sitereport import REFUSAL, Report, Status, Verdict, name_lines, names_as_json, report_as_json, report_as_text, status_of_warnings
 from temzaar.siterisks import Surroundings, find_risks, has_address
 from temzaar.tomldocument import read_document
 
@@ -115,13 +121,38 @@ def ask_controller(program: str, octets: bytes) -> Verdict:
     raise CheckFault(f"{program} judged nothing, status {status}: {said.strip()[:200] or 'no message'}")
 
 
+def shows_colours() -> bool:
+    """Whether standard output is a terminal that shows colours."""
+    return sys.stdout.isatty() and not os.environ.get("NO_COLOR") and os.environ.get("TERM", "dumb") != "dumb"
+
+
+def write_output(text: str) -> None:
+    """Writes a report to standard output. Characters that it cannot have are replaced."""
+    sys.stdout.buffer.write(text.encode("utf-8", "replace"))
+    sys.stdout.flush()
+
+
+def check_names_alone(options: argparse.Namespace) -> Status:
+    """Checks a file of names without a site file, and prints the report. The status. NamesFault: the file cannot be read."""
+    found = check_names(scan_names(options.names), None)
+    status = status_of_warnings(options.strict, bool(found.risks))
+    if options.json:
+        write_output(json.dumps({"status": int(status), "names": names_as_json(found)}) + "\n")
+    else:
+        write_output("".join(f"{line}\n" for line in name_lines(found, shows_colours())))
+    return status
+
+
 def check_site(options: argparse.Namespace) -> Report:
     """Checks the site file that the words name. CheckFault: it cannot be read, or the controller that they name is not a program."""
+    names = scan_names(options.names) if options.names is not None else None
     octets = read_site(options.site)
     program = find_controller(options.controller, options.no_controller)
     document = read_document(octets)
     name = "<stdin>" if options.site == STANDARD_INPUT else options.site
     report = Report(name, document, find_faults(document), find_risks(document, Surroundings(has_address, options.link_version)), options.strict)
+    if names:
+        report.names = check_names(names, None if report.faults else Figures(document.values))
     if options.explain and not document.fault:
         report.lines = list(explain_site(document.values))
     if program:
@@ -132,35 +163,29 @@ def check_site(options: argparse.Namespace) -> Report:
     return report
 
 
-def shows_colours() -> bool:
-    """Whether standard output is a terminal that shows colours."""
-    return sys.stdout.isatty() and not os.environ.get("NO_COLOR") and os.environ.get("TERM", "dumb") != "dumb"
-
-
-def write_report(report: Report, is_json: bool) -> None:
-    """Writes the report to standard output. Characters that it cannot have are replaced."""
-    text = report_as_json(report) if is_json else report_as_text(report, shows_colours())
-    sys.stdout.buffer.write(text.encode("utf-8", "replace"))
-    sys.stdout.flush()
-
-
 def read_words(words: Sequence[str] | None) -> argparse.Namespace:
     """The words of the command line."""
     parser = argparse.ArgumentParser(description=__doc__, formatter_class=argparse.RawDescriptionHelpFormatter)
-    parser.add_argument("site", metavar="SITE_FILE", help="the site file; - is standard input")
+    parser.add_argument("site", nargs="?", metavar="SITE_FILE", help="the site file; - is standard input")
+    add_names_option(parser)
     parser.add_argument("--explain", action="store_true", help="print the values as a table, with times in seconds")
     parser.add_argument("--strict", action="store_true", help="warnings count: status 3 if there are any")
     parser.add_argument("--json", action="store_true", help="print the report for machines")
     parser.add_argument("--link-version", type=int, choices=VERSIONS, help="the greatest version of the link that base stations use; warn if the site refuses it")
     parser.add_argument("--controller", metavar="PROGRAM", help="the controller that has the last word (dmr_trunk on the PATH)")
     parser.add_argument("--no-controller", action="store_true", help="do not ask a controller")
-    return parse_words(parser, words)
+    options = parse_words(parser, words)
+    if options.site is None and options.names is None:
+        parser.error("the following arguments are required: SITE_FILE")
+    return options
 
 
 def check_and_report(options: argparse.Namespace) -> int:
-    """Checks the site file that the words name, and prints the report. The status. CheckFault: the check cannot be made, or the controller gave no verdict."""
+    """Checks the files that the words name, and prints the report. The status. CheckFault: the check cannot be made, or the controller gave no verdict."""
+    if options.site is None:
+        return check_names_alone(options)
     report = check_site(options)
-    write_report(report, options.json)
+    write_output(report_as_json(report) if options.json else report_as_text(report, shows_colours()))
     if report.silence:
         raise CheckFault(report.silence)
     return report.status()

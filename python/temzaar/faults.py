@@ -14,6 +14,19 @@ def system_fault(what: str, fault: OSError) -> ToolFault:
     return ToolFault(f"{what}: {fault.strerror or fault}")
 
 
+# What changes if a file does; None if there is no file.
+FileState = tuple[int, int, int] | None
+
+
+def file_state(path: str) -> FileState:
+    """The state of a file."""
+    try:
+        state = os.stat(path)
+    except (OSError, ValueError):
+        return None
+    return state.st_ino, state.st_size, state.st_mtime_ns
+
+
 def read_octets(path: str, most: int = MOST_OCTETS) -> bytes:
     """The octets of a file. ToolFault: it cannot be read, or has more than `most` octets."""
     try:

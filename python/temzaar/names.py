@@ -132,6 +132,10 @@ class NamesFile:
     bad: tuple[BadLine, ...]
     bad_count: int
 
+    def fault(self) -> str:
+        """Why nothing of the file can be used: it has lines, and none of them is right, as that of something else. Empty if it can be used."""
+        return f"{printable(self.bad[0].in_words(self.path))}; no line of the file is right" if self.bad and not self.names else ""
+
     def notes(self) -> Iterator[str]:
         """What a tool prints of the bad lines: the first few, and the number of the others."""
         yield from (it.in_words(self.path) for it in self.bad[:MOST_PRINTED])
@@ -217,6 +221,6 @@ def scan_names(path: str) -> NamesFile:
 def read_names(path: str) -> NamesFile:
     """The same, to be used. NamesFault: also if there are lines, and none of them is right: it is a file of something else."""
     found = scan_names(path)
-    if found.bad and not found.names:
-        raise NamesFault(f"{printable(found.bad[0].in_words(path))}; no line of the file is right")
+    if fault := found.fault():
+        raise NamesFault(fault)
     return found

@@ -3,6 +3,7 @@
 The questions are a generator, which yields lines and is sent their replies. So a tool that waits for each answer asks the same as a service that waits for
 many things at once.
 """
+from bisect import bisect_left
 from collections.abc import Generator
 from dataclasses import dataclass, field
 from typing import Protocol
@@ -78,6 +79,11 @@ class RadioList:
     """Registered radios, ascending, and whether these are all of them."""
     radios: tuple[int, ...]
     is_complete: bool
+
+    def has(self, radio: int) -> bool:
+        """Whether a radio is one of them."""
+        place = bisect_left(self.radios, radio)
+        return self.radios[place:place + 1] == (radio,)
 
 
 def ask_radios(most: int) -> Generator[str, list[str], RadioList]:

@@ -3,6 +3,7 @@
     hub                          with /etc/dmr_trunk/hub.toml
     hub --config hub.toml        with this config file
     hub --records site.db        reads this file of the controller's records, whatever the config file names
+    hub --names names.csv        shows the names of this file, whatever the config file names
     hub --check                  checks the config file alone
 
 The controller serves one console connection at a time. The hub has that connection, and passes on the lines of all who are connected to it, each with the
@@ -31,6 +32,7 @@ def read_words(words: Sequence[str] | None) -> argparse.Namespace:
     parser = argparse.ArgumentParser(description=__doc__, formatter_class=argparse.RawDescriptionHelpFormatter)
     parser.add_argument("--config", metavar="FILE", default=DEFAULT_PATH, help=f"the config file ({DEFAULT_PATH})")
     parser.add_argument("--records", metavar="RECORDS", help="the controller's file of records, in place of that of the config file")
+    parser.add_argument("--names", metavar="CSV", help="the file of names, in place of that of the config file")
     parser.add_argument("--check", action="store_true", help="check the config file, and end")
     return parse_words(parser, words)
 
@@ -38,9 +40,11 @@ def read_words(words: Sequence[str] | None) -> argparse.Namespace:
 def config_of(options: argparse.Namespace) -> Config:
     """The config of the words. ConfigFault: it cannot be read, or used."""
     config = load_config(options.config)
-    if options.records is None:
-        return config
-    return dataclasses.replace(config, records=dataclasses.replace(config.records, file=os.path.abspath(options.records)))
+    if options.records is not None:
+        config = dataclasses.replace(config, records=dataclasses.replace(config.records, file=os.path.abspath(options.records)))
+    if options.names is not None:
+        config = dataclasses.replace(config, names=dataclasses.replace(config.names, file=os.path.abspath(options.names)))
+    return config
 
 
 def hold_console(options: argparse.Namespace) -> int:

@@ -20,6 +20,7 @@ Modules, lowest first:
     recordgapcounts  the times that the records do not have
     recordreader   looks at the file every few seconds
     model      the state of the site, as the last answers had it
+    namebook   the names of the file of names, which is read again when it changes
     poller     keeps the model up to date
     lines      the lines of operators
     roles      who a peer is, and what it may do

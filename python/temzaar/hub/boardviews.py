@@ -5,17 +5,19 @@ from dataclasses import dataclass, field
 from typing import Any
 
 from temzaar.hub.httpread import Request
-from temzaar.hub.keys import Choice, Whole
+from temzaar.hub.keys import Choice, Sought, Whole
 from temzaar.hub.model import SiteModel
 from temzaar.hub.moment import Moment, utc_text
+from temzaar.hub.namebook import Row
 from temzaar.hub.query import read_query
 from temzaar.hub.recordreader import RecordReader
 from temzaar.hub.recordsamples import KINDS
 from temzaar.hub.samples import FIGURES, SPANS, Span, Summary
 from temzaar.hub.seencalls import CallFilter, SeenCall
-from temzaar.hub.views import MISSED_POLLS, Views, json_octets, rounded
+from temzaar.hub.views import MISSED_POLLS, Views, json_octets, names_of_parties, names_of_radios, rounded
 from temzaar.hub.web import JSON, Response, tagged_response
-from temzaar.picture import LAST_RADIO
+from temzaar.names import MOST_CHARACTERS, Kind, Names
+from temzaar.picture import LAST_RADIO, RadioList
 from temzaar.recordgaps import gaps_within
 
 # How many calls a response has, if the query does not say, and at most.
@@ -23,6 +25,8 @@ USUAL_CALLS, MOST_CALLS = 100, 1000
 # How many responses are kept, each of some 257,000 octets at most.
 MOST_KEPT = 16
 CALL_KEYS = {"radio": Whole(1, LAST_RADIO), "group": Whole(1, LAST_RADIO), "last": Whole(1, MOST_CALLS)}
+RADIO_KEYS = {"begins": Whole(1, LAST_RADIO), "most": Whole(1, MOST_CALLS)}
+NAME_KEYS = {"find": Sought(MOST_CHARACTERS), "most": Whole(1, MOST_CALLS)}
 HISTORY_KEYS = {"span": Choice(*SPANS)}
 
 
@@ -49,6 +53,7 @@ class BoardViews:
     kept_radios: Kept = field(default_factory=Kept)
     kept_calls: Kept = field(default_factory=Kept)
     kept_history: Kept = field(default_factory=Kept)
+    kept_names: Kept = field(default_factory=Kept)
 
     @property
     def model(self) -> SiteModel:
@@ -60,22 +65,46 @@ class BoardViews:
         view = self.views.site_view(Moment.now())
         if view["radios"]:
             view["radios"]["count"] = len(view["radios"].pop("registered"))
+            del view["radios"]["names"]
         return Response(json_octets(view), JSON)
 
-    def radios_json(self, _: Request) -> Response:
-        """The registered radios. The response stays the same until the list changes."""
-        return self.kept_radios.find(self.model.radios_changed, "", self._make_radios)
+    @property
+    def names(self) -> Names:
+        """The names that are known."""
+        return self.views.names
 
-    def _make_radios(self) -> Response:
-        radios, changed = self.model.radios, self.model.radios_changed
-        view = {"changed": utc_text(changed.wall, decimals=True), "complete": radios.is_complete, "registered": radios.radios} if radios and changed else None
+    def radios_json(self, request: Request) -> Response:
+        """The registered radios, or those that the query asks for. The response stays the same until the list or names change. BadRequest: the query is refused."""
+        made_of = self.model.radios_changed, self.views.book.version
+        return self.kept_radios.find(made_of, request.query, lambda: self._make_radios(request.query))
+
+    def _make_radios(self, text: str) -> Response:
+        """The radios by a query. BadRequest: it is refused."""
+        query, radios, changed = read_query(text, RADIO_KEYS), self.model.radios, self.model.radios_changed
+        if radios is None or changed is None:
+            return tagged_response(json_octets(None), JSON)
+        found = [it for it in radios.radios if str(it).startswith(str(query["begins"]))] if "begins" in query else radios.radios
+        listed = found[:query.get("most")]
+        view = {"changed": utc_text(changed.wall, decimals=True), "complete": radios.is_complete, "registered": listed, "count": len(radios.radios), "found": len(found),
+                "names": names_of_radios(listed, self.names)}
         return tagged_response(json_octets(view), JSON)
+
+    def names_json(self, request: Request) -> Response:
+        """The names that have a text in them. The response stays the same until names or the registered radios change. BadRequest: the query is refused."""
+        made_of = self.model.radios_changed, self.views.book.version
+        return self.kept_names.find(made_of, request.query, lambda: self._make_names(request.query))
+
+    def _make_names(self, text: str) -> Response:
+        """The names by a query. BadRequest: it is refused."""
+        query = read_query(text, NAME_KEYS)
+        rows, is_complete = self.views.book.index.find(query.get("find", ""), query.get("most", USUAL_CALLS))
+        return tagged_response(json_octets({"complete": is_complete, "names": [name_view(it, self.model.radios) for it in rows]}), JSON)
 
     def calls_json(self, request: Request) -> Response:
         """Calls that the hub has seen, and those of the records, by the query. The response stays the same until a call begins or ends, or is recorded.
         BadRequest: the query is refused."""
         log, recorded = self.model.calls, self.views.records.log if self.views.records else None
-        made_of = log.count, log.ended.count, recorded and (recorded.until, recorded.ended.count)
+        made_of = log.count, log.ended.count, recorded and (recorded.until, recorded.ended.count), self.views.book.version
         return self.kept_calls.find(made_of, request.query, lambda: self._make_calls(request.query))
 
     def _make_calls(self, text: str) -> Response:
@@ -84,8 +113,15 @@ class BoardViews:
         found = self._find_calls(CallFilter(query.get("radio"), query.get("group")), query.get("last", USUAL_CALLS))
         until = self.views.records.log.until if self.views.records else None
         view = {"since": utc_text(self.views.begun.wall, decimals=True), "poll_seconds": self.views.config.poll.state_seconds, "seen": log.count, "kept": log.ended.size,
-                "recorded_until": None if until is None else utc_text(until, decimals=True), "calls": [call_view(it) for it in found]}
+                "recorded_until": None if until is None else utc_text(until, decimals=True), "calls": [call_view(it, self.names) for it in found],
+                "name": self._name_asked(query)}
         return tagged_response(json_octets(view), JSON)
+
+    def _name_asked(self, query: dict[str, Any]) -> str | None:
+        """The name of the group or the radio that a query names."""
+        if "group" in query:
+            return self.names.name_of(Kind.TALKGROUP, query["group"])
+        return self.names.name_of(Kind.RADIO, query["radio"]) if "radio" in query else None
 
     def _find_calls(self, wanted: CallFilter, most: int) -> list[SeenCall]:
         """The calls that are asked for. Of those that ended before the last recorded term did, the records have the last word."""
@@ -107,13 +143,19 @@ class BoardViews:
         return Response(json_octets(view), JSON)
 
 
-def call_view(call: SeenCall) -> dict[str, Any]:
+def call_view(call: SeenCall, names: Names) -> dict[str, Any]:
     """A call that was seen, or recorded."""
     carrier, slot = call.slot
     return {"number": call.number, "carrier": carrier, "slot": slot, "kind": call.parties.kind, "target": call.parties.target, "source": call.parties.source,
             "began": utc_text(call.began.wall, decimals=True), "older": call.is_older, "ended": utc_text(call.ended.wall, decimals=True) if call.ended else None,
             "end_seen": call.is_end_seen if call.ended else None, "seconds": rounded(call.seconds) if call.seconds is not None else None,
-            "recorded": call.cause is not None, "cause": call.cause}
+            "recorded": call.cause is not None, "cause": call.cause, **names_of_parties(call.parties, names), "carrier_name": names.name_of(Kind.CARRIER, carrier)}
+
+
+def name_view(row: Row, radios: RadioList | None) -> dict[str, Any]:
+    """A name that was found; of a radio also whether it is registered, if that is known."""
+    is_known = row.kind is Kind.RADIO and radios is not None
+    return {"kind": row.kind, "number": row.number, "name": row.name, "registered": radios.has(row.number) if is_known and radios else None}
 
 
 def span_view(name: str, span: Span, now: Moment) -> dict[str, Any]:

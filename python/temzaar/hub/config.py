@@ -42,6 +42,13 @@ class RecordsKeys:
 
 
 @dataclasses.dataclass(frozen=True)
+class NamesKeys:
+    """The file of names."""
+    file: str = key(FilePath(or_none=True), "", "the file; if it is empty, there are no names")
+    read_seconds: float = key(Number(0.05, 3600), 5.0, "from one look at the file to the next")
+
+
+@dataclasses.dataclass(frozen=True)
 class LinePortKeys:
     """The port for operators."""
     socket: str = key(FilePath(), "/run/dmr_hub/console.sock", "the unix socket")
@@ -96,6 +103,7 @@ class Config:
     controller: ControllerKeys = ControllerKeys()
     poll: PollKeys = PollKeys()
     records: RecordsKeys = RecordsKeys()
+    names: NamesKeys = NamesKeys()
     line_port: LinePortKeys = LinePortKeys()
     roles: RoleKeys = RoleKeys()
     audit: AuditKeys = AuditKeys()

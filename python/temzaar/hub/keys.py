@@ -6,6 +6,7 @@ range are faults, which name the key.
 import dataclasses
 from collections.abc import Mapping
 from typing import Any, Protocol, TypeVar
+from urllib.parse import unquote
 
 from temzaar.faults import ToolFault
 
@@ -81,6 +82,20 @@ class Text:
         if not isinstance(value, str) or len(value) > self.most or not value.isprintable():
             raise ValueError(f"not {self.says}")
         return value
+
+
+class Sought:
+    """A text to search for, as a query of HTTP has it: other characters than letters and digits may be written as `%HH`."""
+
+    def __init__(self, most: int) -> None:
+        self.most, self.says = most, f"a text of 1 to {most} characters"
+
+    def read(self, value: Any) -> str:
+        """The text."""
+        text = unquote(str(value), errors="strict")
+        if not text.isprintable() or not 1 <= len(text) <= self.most:
+            raise ValueError(f"not {self.says}")
+        return text
 
 
 class Choice:

@@ -6,11 +6,13 @@ from dataclasses import dataclass
 from temzaar.console import CHANGES, LISTS, LONGEST_LINE, QUESTIONS
 
 # The hub answers these itself, with lists.
-OWN = ("help", "history", "who")
+OWN = ("help", "history", "names", "who")
 # What the hub answers while the controller does not, and to a line that has no answer or was not sent; the reason follows.
 AWAY, NO_ANSWER, BUSY = "the controller is away", "no answer", "the hub is busy"
 # How the row of `who` begins that has the site's name.
 WHO_SITE = "who site "
+# How each row of `names` begins.
+NAME = "name "
 # The commands of a line port whose replies are lists.
 HUB_LISTS = (*LISTS, *OWN)
 

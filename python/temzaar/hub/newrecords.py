@@ -1,6 +1,5 @@
 """What is new in the controller's file of records since a term: sums, counts and the newest calls. It is read in a thread of its own, into memory of a fixed size."""
 import bisect
-import os
 import struct
 import time
 from collections import Counter
@@ -9,6 +8,7 @@ from dataclasses import dataclass, field
 
 from temzaar import pdus
 from temzaar.console import Parties
+from temzaar.faults import FileState, file_state
 from temzaar.hub.moment import Moment
 from temzaar.hub.recordsamples import Happened
 from temzaar.hub.samples import SPANS
@@ -26,7 +26,7 @@ SUMMED = ("registrations", "heard", "noise", "polls", "grants", "late_entries")
 # The greatest number of a carrier, and of a slot.
 LAST_CARRIER, LAST_SLOT = 15, 1
 
-Signature = tuple[tuple[int, int, int] | None, ...]
+Signature = tuple[FileState, FileState]
 
 
 @dataclass
@@ -98,14 +98,7 @@ def last_term(records: Records) -> RecordedTerm | None:
 
 def signature(path: str) -> Signature:
     """What changes if the file or its log does."""
-    found: list[tuple[int, int, int] | None] = []
-    for name in (path, path + LOG):
-        try:
-            state = os.stat(name)
-            found.append((state.st_ino, state.st_size, state.st_mtime_ns))
-        except (OSError, ValueError):
-            found.append(None)
-    return tuple(found)
+    return file_state(path), file_state(path + LOG)
 
 
 def last_known(records: Records, last: RecordedTerm | None) -> int:

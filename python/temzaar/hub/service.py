@@ -16,6 +16,7 @@ from temzaar.hub.lineport import STOP_SECONDS, LinePort
 from temzaar.hub.link import ConsoleLink
 from temzaar.hub.model import SiteModel
 from temzaar.hub.moment import Moment
+from temzaar.hub.namebook import NameBook
 from temzaar.hub.notes import note, notify_systemd, warn, watchdog_seconds
 from temzaar.hub.pagefiles import PREFIX, load_page
 from temzaar.hub.poller import Poller
@@ -35,10 +36,11 @@ class Hub:
         self.link = ConsoleLink(self._read_place, config.controller, self.counts, self._report_link)
         self.poller = Poller(self.link, self.model, config.poll)
         self.audit = AuditLog(config.audit)
-        self.desk = Desk(self.link, self.audit, config.line_port, self.counts, self.poller.hurry, config.controller.name)
+        self.book = NameBook(config.names)
+        self.desk = Desk(self.link, self.audit, config.line_port, self.counts, self.poller.hurry, config.controller.name, self.book)
         self.line_port = LinePort(self.desk, rules)
         self.records = RecordReader(config.records) if config.records.file else None
-        self.views = Views(config, self.link, self.model, self.counts, self.desk.sessions, Moment.now(), self.records)
+        self.views = Views(config, self.link, self.model, self.counts, self.desk.sessions, Moment.now(), self.records, self.book)
         self.board = BoardViews(self.views)
         views = {**self._load_page(), **self._views_for_machines()}
         self.web_port = WebPort(config.http, views, self.counts, [path for path in views if not path.startswith(PREFIX)])
@@ -48,7 +50,7 @@ class Hub:
         """The views for machines, by their paths."""
         board = self.board
         return {"/v1/site.json": lambda _: Response(self.views.site_json(), JSON), "/v1/state.json": board.state_json, "/v1/radios.json": board.radios_json,
-                "/v1/calls.json": board.calls_json, "/v1/history.json": board.history_json,
+                "/v1/names.json": board.names_json, "/v1/calls.json": board.calls_json, "/v1/history.json": board.history_json,
                 "/metrics": lambda _: Response(self.views.metrics(), METRICS), "/healthz": self._health}
 
     def _load_page(self) -> dict[str, View]:
@@ -72,7 +74,7 @@ class Hub:
     def _health(self, _: Request) -> Response:
         """Whether all is well, as a response."""
         faults = self.views.health_faults()
-        return Response("".join(f"{it}\n" for it in faults or ["ok"]).encode("ascii", "replace"), TEXT, HTTPStatus.SERVICE_UNAVAILABLE if faults else HTTPStatus.OK)
+        return Response("".join(f"{it}\n" for it in faults or ["ok"]).encode("utf-8", "replace"), TEXT, HTTPStatus.SERVICE_UNAVAILABLE if faults else HTTPStatus.OK)
 
     def _report_link(self) -> None:
         """Notes that the controller answers, or why it does not."""
@@ -108,6 +110,8 @@ class Hub:
             tasks += [asyncio.create_task(self.link.run()), asyncio.create_task(self.poller.run())]
             if self.records:
                 tasks.append(asyncio.create_task(self.records.run()))
+            if self.book.is_used:
+                tasks.append(asyncio.create_task(self.book.run()))
             tasks.append(asyncio.create_task(feed_watchdog()))
             notify_systemd("READY=1")
             await asyncio.wait({waiting, *tasks}, return_when=asyncio.FIRST_COMPLETED)

@@ -6,18 +6,20 @@ from collections.abc import Callable, Coroutine, Iterator
 from dataclasses import dataclass, field
 from typing import Any
 
-from temzaar.console import TOO_LONG, UNKNOWN
+from temzaar.console import TOO_LONG, UNKNOWN, are_numbers
 from temzaar.hub.audit import AuditFault, AuditLog
-from temzaar.hub.config import LinePortKeys
+from temzaar.hub.config import LinePortKeys, NamesKeys
 from temzaar.hub.counts import HubCounts
-from temzaar.hub.lines import NO_ANSWER, WHO_SITE, Line, LineCutter, LineKind, escape_octets
+from temzaar.hub.lines import NAME, NO_ANSWER, WHO_SITE, Line, LineCutter, LineKind, escape_octets
 from temzaar.hub.link import ConsoleLink, NoAnswer
 from temzaar.hub.moment import utc_text
+from temzaar.hub.namebook import NameBook
 from temzaar.hub.notes import UserNotes
 from temzaar.hub.places import Place
 from temzaar.hub.quota import Quota
 from temzaar.hub.roles import Peer, Role
 from temzaar.hub.turn import LongWork, Paces
+from temzaar.names import KINDS, Kind
 
 # How many octets are read at once.
 PIECE = 4096
@@ -44,19 +46,22 @@ HELP = (
     ("stay", "sends radios away no longer (role full)"),
     ("help", "this list"),
     ("history N", "the last N commands that change the site, 16 without N"),
+    ("names K N ..", "the names of numbers N; K is radio, talkgroup or carrier"),
     ("who", "the controller, the site's name, and who is connected to the hub"),
 )
 
 
 @dataclass
 class Desk:
-    """What all sessions share. `on_change` is called after a command has changed the site; `name` is that of the site, if the config has one."""
+    """What all sessions share. `on_change` is called after a command has changed the site; `name` is that of the site, if the config has one. `book` has
+    the names of radios, talkgroups and carriers."""
     link: ConsoleLink
     audit: AuditLog
     keys: LinePortKeys
     counts: HubCounts
     on_change: Callable[[], None]
     name: str = ""
+    book: NameBook = field(default_factory=lambda: NameBook(NamesKeys()))
     sessions: dict[int, "Session"] = field(default_factory=dict)
     lines: Paces = field(default_factory=lambda: Paces(LINES_PER_SECOND, LINES_AT_ONCE))
     refusals: Paces = field(default_factory=lambda: Paces(REFUSALS_PER_SECOND))
@@ -251,6 +256,11 @@ class Session:
             if not count.isdigit() or not 1 <= int(count[:4]) <= MOST_HISTORY_ROWS or len(count) > 8:
                 return UNKNOWN
             rows = self._history_rows(int(count))
+        elif line.name == "names":
+            kind, *numbers = [it.decode("ascii", "replace") for it in line.words[1:]] or [""]
+            if kind not in KINDS or not numbers or not are_numbers(numbers):
+                return UNKNOWN
+            rows = self._name_rows(KINDS[kind], numbers)
         elif len(line.words) > 1:
             return UNKNOWN
         else:
@@ -261,6 +271,12 @@ class Session:
         """The last commands that were to change the site, oldest first."""
         for it in self.desk.audit.last(count):
             yield f"history {it['time']} {it['user']} {it['event']}: {it['line']}: {it['reply']}"
+
+    def _name_rows(self, kind: Kind, numbers: list[str]) -> Iterator[str]:
+        """The names of those of some numbers that have one."""
+        for number in map(int, numbers):
+            if name := self.desk.book.names.name_of(kind, number):
+                yield f"{NAME}{kind} {number} {escape_octets(name.encode())}"
 
     def _who_rows(self) -> Iterator[str]:
         """The console, the site's name, and each connection."""

@@ -1,18 +1,20 @@
 """What the hub shows to machines: the site as JSON, metrics in the text format of Prometheus, and whether all is well."""
 import json
 import os
-from collections.abc import Iterator, Sized
+from collections.abc import Iterable, Iterator, Sized
 from dataclasses import dataclass, field
 from typing import Any
 
 from temzaar.console import Parties
-from temzaar.hub.config import Config
+from temzaar.hub.config import Config, NamesKeys
 from temzaar.hub.counts import Histogram, HubCounts, Series
 from temzaar.hub.lines import AWAY
 from temzaar.hub.link import ConsoleLink
 from temzaar.hub.model import UNSENT_SECONDS, SiteModel
 from temzaar.hub.moment import Moment, utc_text
+from temzaar.hub.namebook import NameBook
 from temzaar.hub.recordreader import RecordReader
+from temzaar.names import Kind, Names, called_kind
 from temzaar.picture import Picture, Standing
 from temzaar.process import Process
 from temzaar.version import read_version
@@ -24,7 +26,8 @@ MISSED_POLLS = 5
 
 @dataclass
 class Views:
-    """Everything that the views are made of. `sessions` has the connections of operators; `records` is None if no file of records is read."""
+    """Everything that the views are made of. `sessions` has the connections of operators; `records` is None if no file of records is read; `book` has the
+    names."""
     config: Config
     link: ConsoleLink
     model: SiteModel
@@ -32,12 +35,18 @@ class Views:
     sessions: Sized
     begun: Moment
     records: RecordReader | None = None
+    book: NameBook = field(default_factory=lambda: NameBook(NamesKeys()))
     version: str = field(default_factory=read_version)
 
     def __post_init__(self) -> None:
         if self.records:
             self.model.watch = self.records.watch
             self.model.watch.find_place = lambda: self.link.place
+
+    @property
+    def names(self) -> Names:
+        """The names that are known."""
+        return self.book.names
 
     def site_json(self) -> bytes:
         """The state of the site as JSON (docs/HUB.md)."""
@@ -54,6 +63,7 @@ class Views:
             "state": self._state_view(now),
             "radios": self._radios_view(now),
             "records": self._records_view(),
+            "names": {"count": len(self.names), "bad_lines": self.book.bad_count, "fault": self.book.fault or None} if self.book.is_used else None,
         }
 
     def _state_view(self, now: Moment) -> dict[str, Any] | None:
@@ -68,7 +78,7 @@ class Views:
             "counts": picture.status.counts,
             "fill": {"kind": fill, "channel": int(channel) if channel.isdecimal() else None},
             "control": self._control_view(picture),
-            "unsent": [{"carrier": carrier, "slot": slot, "since": utc_text(since.wall, decimals=True)} for (carrier, slot), since in self.model.unsent(now).items()],
+            "unsent": [{"carrier": carrier, "slot": slot, "since": utc_text(since.wall, decimals=True), "name": self._carrier_name(carrier)} for (carrier, slot), since in self.model.unsent(now).items()],
             "carriers": [self._carrier_view(picture, number, now) for number in picture.carriers],
             "queue": [{"place": place, **self._parties_view(("line", None, parties), now)} for place, parties in enumerate(picture.lines, 1)],
         }
@@ -78,7 +88,11 @@ class Views:
         if picture.control is None:
             return None
         known = self.model.carriers[picture.control]
-        return {"carrier": picture.control, "up": known.is_up, "since": utc_text(known.since.wall, decimals=True)}
+        return {"carrier": picture.control, "up": known.is_up, "since": utc_text(known.since.wall, decimals=True), "name": self._carrier_name(picture.control)}
+
+    def _carrier_name(self, number: int) -> str | None:
+        """The name of a carrier."""
+        return self.names.name_of(Kind.CARRIER, number)
 
     def _records_view(self) -> dict[str, Any] | None:
         """How far the records go, and what is wrong with them; None if the hub reads none."""
@@ -101,20 +115,21 @@ class Views:
                 call = self._parties_view(("call", (carrier, slot), parties), now) if parties else None
                 slots.append({"slot": slot, "state": state, "call": call})
         known = self.model.carriers[number]
-        return {"number": number, "up": known.is_up, "since": utc_text(known.since.wall, decimals=True), "slots": slots}
+        return {"number": number, "up": known.is_up, "since": utc_text(known.since.wall, decimals=True), "slots": slots, "name": self._carrier_name(number)}
 
     def _parties_view(self, standing: Standing, now: Moment) -> dict[str, Any]:
         """The parties of a call or of a request that waits, with its age."""
         parties, age = Parties.read(standing[2]), self.model.ages.find(standing, now.steady)
         return {"kind": parties.kind, "target": parties.target, "source": parties.source,
-                "age_seconds": rounded(age.seconds) if age else None, "older": age.is_older if age else True}
+                "age_seconds": rounded(age.seconds) if age else None, "older": age.is_older if age else True, **names_of_parties(parties, self.names)}
 
     def _radios_view(self, now: Moment) -> dict[str, Any] | None:
         """The registered radios; None if there is no list yet."""
         radios, seen = self.model.radios, self.model.radios_seen
         if radios is None or seen is None:
             return None
-        return {"time": utc_text(seen.wall, decimals=True), "age_seconds": rounded(now.steady - seen.steady), "complete": radios.is_complete, "registered": radios.radios}
+        return {"time": utc_text(seen.wall, decimals=True), "age_seconds": rounded(now.steady - seen.steady), "complete": radios.is_complete, "registered": radios.radios,
+                "names": names_of_radios(radios.radios, self.names)}
 
     def metrics(self) -> bytes:
         """All metrics."""
@@ -207,10 +222,10 @@ class Views:
             return
         for number in carriers if isinstance(rule.carriers, str) else rule.carriers:
             if number not in carriers:
-                yield f"carrier {number} is not in the site"
+                yield f"carrier {self.names.beside(Kind.CARRIER, number)} is not in the site"
             elif not carriers[number].is_up and now.steady - carriers[number].since.steady > rule.carrier_seconds:
                 control = "no control channel: " if self.model.picture and number == self.model.picture.control else ""
-                yield f"{control}carrier {number} is down since {utc_text(carriers[number].since.wall)}"
+                yield f"{control}carrier {self.names.beside(Kind.CARRIER, number)} is down since {utc_text(carriers[number].since.wall)}"
 
     def _unsent_faults(self, now: Moment) -> Iterator[str]:
         """The carriers of the rule that have a burst to send, and do not send it."""
@@ -219,7 +234,7 @@ class Views:
             return
         for (carrier, slot), since in self.model.unsent(now, max(UNSENT_SECONDS, rule.carrier_seconds)).items():
             if isinstance(rule.carriers, str) or {carrier, picture.control} & set(rule.carriers):
-                yield f"slot {slot} of carrier {carrier} waits for a poll since {utc_text(since.wall)}"
+                yield f"slot {slot} of carrier {self.names.beside(Kind.CARRIER, carrier)} waits for a poll since {utc_text(since.wall)}"
 
     def _record_faults(self) -> Iterator[str]:
         """What is wrong with the records, if the rule asks for them."""
@@ -230,6 +245,16 @@ class Views:
         elif self._is_overdue():
             last = self.model.watch.last
             yield f"no records since {utc_text(last.ended_ms / 1000)}" if last else "no records"
+
+
+def names_of_parties(parties: Parties, names: Names) -> dict[str, str | None]:
+    """The names of the parties of a call, or of a request that waits."""
+    return {"target_name": names.name_of(called_kind(parties.kind == "group"), parties.target), "source_name": names.name_of(Kind.RADIO, parties.source)}
+
+
+def names_of_radios(radios: Iterable[int], names: Names) -> dict[int, str]:
+    """The names of those of some radios that have one. JSON makes a text of each number."""
+    return {radio: name for radio in radios if (name := names.name_of(Kind.RADIO, radio))}
 
 
 def gauge(name: str, about: str, value: float) -> Series:

@@ -1,0 +1,225 @@
+"""The hub's names: read again when their file changes, shown beside numbers, and found by a text. Of a file that cannot be used nothing is taken."""
+import dataclasses
+import json
+import os
+import pathlib
+import time
+from typing import Any
+from unittest import mock
+
+from temzaar.cli.hub import config_of, main, read_words
+from temzaar.hub import namebook
+from temzaar.hub.config import HealthKeys, NamesKeys
+from temzaar.hub.namebook import NameBook, NameIndex
+from temzaar.hub.service import Hub
+from temzaar.names import Kind, Names, parse_names
+from temzaar.picture import RadioList
+from temzaar.ports import free_ports
+from tests.hub_support import wait_until
+from tests.made_records import make_records
+from tests.support import call_tool
+from tests.test_hub_board import BoardCase
+
+# The fake console has carriers 0 and 1, calls of 1001 to group 91 and of 1003 to 1002, a request of 1004 to group 94, and the radios 1001 to 1040.
+NAMES = "kind,number,name\nradio,1001,Bus 12\nradio,1003,Süd <b>\nradio,1500,Bus 99\nradio,91,nobody\ntalkgroup,91,Drivers\ntalkgroup,1002,nobody\ncarrier,1,Mast North\n"
+
+
+def names_of(text: str) -> Names:
+    """The names of a text."""
+    return parse_names(text.encode(), "names.csv").names
+
+
+class NamesCase(BoardCase):
+    """A hub with an HTTP port and a file of names."""
+
+    async def serve_names(self, text: str = NAMES, health: HealthKeys = HealthKeys(), records: str = "") -> Hub:
+        """Starts it, and waits until the names were read."""
+        self.port, self.file = free_ports(1), pathlib.Path(self.folder, "names.csv")
+        self.file.write_text(text, encoding="utf-8")
+        config = self.config(http={"port": self.port}, health=health, records=records)
+        hub = await self.start(config=dataclasses.replace(config, names=NamesKeys(str(self.file), 0.05)))
+        await wait_until(lambda: hub.model.picture is not None and hub.model.radios is not None and hub.book.version)
+        return hub
+
+    def write(self, text: str) -> None:
+        """Writes the file anew, as an editor does."""
+        new = self.file.with_suffix(".new")
+        new.write_text(text, encoding="utf-8")
+        os.replace(new, self.file)
+
+
+class Views(NamesCase):
+    """What machines get."""
+
+    async def test_the_site(self) -> None:
+        await self.serve_names()
+        view = await self.view("/v1/site.json")
+        state = view["state"]
+        self.assertEqual(view["names"], {"count": 7, "bad_lines": 0, "fault": None})
+        self.assertEqual([it["name"] for it in state["carriers"]], [None, "Mast North"])
+        calls = [state["carriers"][carrier]["slots"][slot]["call"] for carrier, slot in ((0, 1), (1, 0))]
+        self.assertEqual([(it["target"], it["target_name"], it["source"], it["source_name"]) for it in calls], [(91, "Drivers", 1001, "Bus 12"), (1002, None, 1003, "Süd <b>")])
+        self.assertEqual([(it["target"], it["target_name"], it["source_name"]) for it in state["queue"]], [(94, None, None)])
+        self.assertEqual((state["control"]["name"], view["radios"]["names"]), (None, {"1001": "Bus 12", "1003": "Süd <b>"}))
+        self.assertEqual((await self.view("/v1/state.json"))["radios"].keys(), {"time", "age_seconds", "complete", "count"})
+
+    async def test_without_names(self) -> None:
+        """The same keys, without names; and no file is read."""
+        hub = await self.serve()
+        view = await self.view("/v1/site.json")
+        self.assertEqual((view["names"], view["state"]["carriers"][1]["name"], view["radios"]["names"]), (None, None, {}))
+        self.assertEqual({it[name] for it in view["state"]["queue"] for name in ("target_name", "source_name")}, {None})
+        self.assertEqual((await self.view("/v1/names.json?find=a"), hub.book.worker.thread), ({"complete": True, "names": []}, None))
+
+    async def test_calls(self) -> None:
+        """Seen calls and recorded ones; the name of what the query asks for."""
+        hub = await self.serve_names(records=str(make_records(pathlib.Path(self.folder, "site.db"))))
+        await wait_until(lambda: hub.records and hub.records.last)
+        view = await self.view("/v1/calls.json?group=91&last=1")
+        self.assertEqual((view["name"], view["calls"][0]["target_name"], view["calls"][0]["source_name"], view["calls"][0]["carrier_name"]), ("Drivers", "Drivers", "Bus 12", None))
+        self.assertEqual([(await self.view(f"/v1/calls.json{query}"))["name"] for query in ("", "?radio=1500", "?radio=7", "?group=1500")], [None, "Bus 99", None, None])
+        rows = (await self.view("/v1/calls.json?radio=1003"))["calls"]
+        self.assertEqual({(it["source_name"], it["carrier_name"]) for it in rows if it["source"] == 1003 and it["carrier"] == 1}, {("Süd <b>", "Mast North")})
+
+    async def test_radios(self) -> None:
+        await self.serve_names()
+        view = await self.view("/v1/radios.json?begins=100&most=3")
+        self.assertEqual({name: view[name] for name in view if name != "changed"},
+                         {"complete": True, "registered": [1001, 1002, 1003], "count": 40, "found": 9, "names": {"1001": "Bus 12", "1003": "Süd <b>"}})
+        whole = await self.view("/v1/radios.json")
+        self.assertEqual((len(whole["registered"]), whole["found"], whole["names"]), (40, 40, {"1001": "Bus 12", "1003": "Süd <b>"}))
+        for query, said in (("begins=0", "begins: out of range: 1 to 16777215"), ("begins=x", "begins: not a whole number"), ("most=1001", "most: out of range: 1 to 1000"), ("last=1", "last: unknown key: there is begins, most")):
+            answer = await self.get(f"/v1/radios.json?{query}")
+            self.assertEqual((answer.status, answer.body.decode()[:len(said)]), (400, said))
+
+    async def test_search(self) -> None:
+        """By a part of the name, in upper or lower case. It asks for what it shows: the greatest number of names is the query's."""
+        await self.serve_names()
+        bus = [{"kind": "radio", "number": 1001, "name": "Bus 12", "registered": True}, {"kind": "radio", "number": 1500, "name": "Bus 99", "registered": False}]
+        for query, names, is_complete in (("bus", bus, True), ("BUS%201", bus[:1], True), ("bus&most=1", bus[:1], False), ("12", bus[:1], True), ("s%C3%BCd", [{**bus[0], "number": 1003, "name": "Süd <b>"}], True),
+                                          ("S%C3%9CD", [{**bus[0], "number": 1003, "name": "Süd <b>"}], True), ("drivers", [{"kind": "talkgroup", "number": 91, "name": "Drivers", "registered": None}], True),
+                                          ("north", [{"kind": "carrier", "number": 1, "name": "Mast North", "registered": None}], True), ("x", [], True), ("2%0a", None, True)):
+            answer = await self.get(f"/v1/names.json?find={query}")
+            if names is None:
+                self.assertEqual((answer.status, answer.body), (400, b"find: not a text of 1 to 40 characters\n"))
+            else:
+                self.assertEqual((json.loads(answer.body), answer.status), ({"complete": is_complete, "names": names}, 200), query)
+        for query in ("find=", "find=%FF", f"find={41 * 'x'}", "look=a"):
+            self.assertEqual((await self.get(f"/v1/names.json?{query}")).status, 400, query)
+
+    async def test_health_has_names_and_metrics_have_none(self) -> None:
+        self.fake.replies["slots"] = ["slot 0 0 control", "slot 0 1 free", "slot 1 0 down", "slot 1 1 down", "end"]
+        await self.serve_names(health=HealthKeys(carrier_seconds=0.0))
+        answer = await self.get("/healthz")
+        self.assertRegex(answer.body.decode(), r"^carrier 1 \[Mast North\] is down since \S+Z\n$")
+        text = (await self.get("/metrics")).body.decode()
+        for name in ("Mast North", "Bus 12", "Drivers"):
+            self.assertNotIn(name, text)
+        self.assertIn('dmr_site_carrier_up{carrier="1"} 0', text)
+
+    async def test_the_command(self) -> None:
+        await self.serve_names()
+        operator = await self.connect()
+        for line, reply in ((b"names radio 1001 1002 1003", b"name radio 1001 Bus 12\nname radio 1003 S\\xc3\\xbcd <b>\nend\n"), (b"names talkgroup 91", b"name talkgroup 91 Drivers\nend\n"),
+                            (b"names carrier 0 1\r", b"name carrier 1 Mast North\nend\n"), (b"names radio 7", b"end\n"), (b"names radio 99999999", b"end\n"),
+                            *((it, b"error unknown command\n") for it in (b"names", b"names radio", b"names group 91", b"names radio x", b"names radio 123456789", b"names radio 1001 x", b"names radio \xff"))):
+            self.assertEqual(await operator.ask(line), reply, line)
+        # replies of the controller have no names
+        self.assertEqual(await operator.ask(b"calls 0"), b"call 0 1 group 91 from 1001\nend\n")
+
+
+class Reload(NamesCase):
+    """The file changes while the hub runs."""
+
+    async def test_a_change(self) -> None:
+        hub = await self.serve_names()
+        tag = (await self.get("/v1/calls.json")).headers["etag"]
+        self.write("radio,1001,Bus 13\n")
+        await wait_until(lambda: hub.book.version == 2)
+        self.assertEqual((await self.view("/v1/site.json"))["state"]["carriers"][0]["slots"][1]["call"]["source_name"], "Bus 13")
+        answer = await self.get("/v1/calls.json")
+        self.assertEqual((json.loads(answer.body)["calls"][-1]["source_name"], answer.headers["etag"] == tag), ("Bus 13", False))
+        self.assertEqual((await self.view("/v1/names.json?find=bus"))["names"][0]["name"], "Bus 13")
+        self.write("")
+        await wait_until(lambda: hub.book.version == 3)
+        self.assertEqual((len(hub.book.names), (await self.view("/v1/radios.json"))["names"]), (0, {}))
+
+    async def test_a_bad_file(self) -> None:
+        """It is noted once, the JSON says so, and the names that were read before stay."""
+        with mock.patch.object(namebook, "warn") as warned, mock.patch.object(namebook, "note") as noted:
+            hub = await self.serve_names()
+            self.assertEqual(noted.call_args.args, (f"names: {self.file}: 7 names",))
+            for change, fault in ((lambda: self.write("a;b\n"), "line 1: not kind,number,name, three fields with commas between them; no line of the file is right"),
+                                  (lambda: os.unlink(self.file), "No such file or directory"), (lambda: os.mkdir(self.file), "Is a directory")):
+                change()
+                await wait_until(lambda fault=fault: fault in hub.book.fault)
+                looks = 3
+                for _ in range(looks):
+                    await hub.book.look()
+                self.assertEqual(warned.call_args.args, (f"names: {self.file}: {fault}; the names that were read before stay",))
+                view = await self.view("/v1/site.json")
+                self.assertEqual((view["names"]["fault"], view["names"]["count"], view["state"]["carriers"][1]["name"]), (f"{self.file}: {fault}", 7, "Mast North"))
+            self.assertEqual((warned.call_count, hub.book.version), (3, 1))
+            os.rmdir(self.file)
+            self.write(NAMES)
+            await wait_until(lambda: hub.book.version == 2)
+            self.assertEqual((await self.view("/v1/site.json"))["names"]["fault"], None)
+
+    async def test_bad_lines(self) -> None:
+        """They are noted by their numbers, without what they have; the others are used."""
+        with mock.patch.object(namebook, "warn") as warned:
+            hub = await self.serve_names("radio,1001,a\nradio,x,\x1b[2J\n" + "secret\n" * 7)
+        said = [it.args[0] for it in warned.call_args_list]
+        self.assertEqual((len(said), said[0], hub.book.bad_count), (6, f"names: {self.file}: line 2: the number of a radio is from 1 to 16777215", 8))
+        self.assertEqual(said[-1], f"names: {self.file}: 3 more lines are not used; `dmr_check --names {self.file}` lists them")
+        self.assertNotIn("secret", " ".join(said))
+        self.assertEqual((await self.view("/v1/site.json"))["names"], {"count": 1, "bad_lines": 8, "fault": None})
+
+    async def test_a_file_that_cannot_be_read_at_first(self) -> None:
+        """The hub serves, and takes the file when it is there. A file that is bad and stays the same is read once."""
+        book = NameBook(NamesKeys(os.path.join(self.folder, "names.csv")))
+        with mock.patch.object(namebook, "warn"), mock.patch.object(namebook, "note"), mock.patch.object(namebook, "scan_names", wraps=namebook.scan_names) as scanned:
+            await book.look()
+            self.assertIn("No such file", book.fault)
+            pathlib.Path(book.keys.file).write_text("nothing\n", encoding="utf-8")
+            for _ in range(3):
+                await book.look()
+            self.assertEqual((scanned.call_count, book.version), (2, 0))
+            pathlib.Path(book.keys.file).write_text(NAMES, encoding="utf-8")
+            for _ in range(3):
+                await book.look()
+        self.assertEqual((scanned.call_count, book.version, book.fault, book.names), (3, 1, "", names_of(NAMES)))
+        book.worker.close()
+
+    async def test_the_words_name_another_file(self) -> None:
+        path = pathlib.Path(self.folder, "hub.toml")
+        path.write_text('[names]\nfile = "/a/names.csv"\n', encoding="utf-8")
+        for words, file in (([], "/a/names.csv"), (["--names", "b.csv"], os.path.abspath("b.csv"))):
+            self.assertEqual(config_of(read_words(["--config", str(path), *words])).names.file, file)
+        self.assertEqual(call_tool(main, "--check", "--config", str(path), "--names", "c.csv").returncode, 0)
+
+
+class Many(NamesCase):
+    """A hundred thousand names."""
+
+    async def test_a_search_takes_milliseconds(self) -> None:
+        names = names_of("".join(f"radio,{it},Bus of line {it} in the north\n" for it in range(1, 100_001)))
+        index = NameIndex(names)
+        for text, count, is_complete in (("line 99999", 1, True), ("north", 50, False), ("zzz", 0, True), ("", 0, True)):
+            began = time.process_time()
+            rows, found_all = index.find(text, 50)
+            self.assertEqual((len(rows), found_all), (count, is_complete), text)
+            self.assertLess(time.process_time() - began, 0.05, text)
+        self.assertEqual(index.find("LINE 99999", 5)[0][0].number, 99_999)
+
+    async def test_the_page_gets_what_it_asks_for(self) -> None:
+        hub = await self.serve_names("".join(f"radio,{it},Bus {it}\n" for it in range(1, 100_001)))
+        hub.model.take_radios(RadioList(tuple(range(1, 4097)), True), hub.model.seen or mock.ANY)
+        with mock.patch.object(hub.model, "take_radios"):
+            answer = await self.get("/v1/radios.json?most=200")
+            self.assertLess(len(answer.body), 8000)
+            self.assertEqual((len(json.loads(answer.body)["names"]), json.loads(answer.body)["found"]), (200, 4096))
+            self.assertLess(len((await self.get("/v1/names.json?find=bus&most=50")).body), 5000)
+            state: Any = await self.view("/v1/state.json")
+            self.assertEqual((state["radios"]["count"], state["names"]["count"]), (4096, 100_000))
+        self.assertEqual(hub.book.names.name_of(Kind.RADIO, 100_000), "Bus 100000")

@@ -76,17 +76,27 @@ class Player(threading.Thread):
 
 
 class Scene:
-    """The controller, which keeps records, the hub with an HTTP port, and the player. `base` is the address of the page."""
+    """The controller, which keeps records, the hub with an HTTP port, and the player. `base` is the address of the page; `names` is the text of the file of
+    names, if the hub is to have one."""
 
-    def __init__(self, program: str, site: Site, state_seconds: float = 0.25) -> None:
+    def __init__(self, program: str, site: Site, state_seconds: float = 0.25, names: str = "") -> None:
         self.folder = tempfile.mkdtemp()
         self.controller = Controller(program, site, variables={"STATE_DIRECTORY": self.folder})
         self.controller.wait_until_served()
         self.port = free_ports(1)
         self.base = f"http://127.0.0.1:{self.port}/"
+        self.names = os.path.join(self.folder, "names.csv") if names else ""
+        self.write_names(names)
         self.hub = self._start_hub(site, state_seconds)
         self.player = Player(site)
         self.player.start()
+
+    def write_names(self, text: str) -> None:
+        """Writes the file of names anew, if there is one."""
+        if self.names:
+            with open(f"{self.names}.new", "w", encoding="utf-8") as it:
+                it.write(text)
+            os.replace(f"{self.names}.new", self.names)
 
     def _start_hub(self, site: Site, state_seconds: float) -> subprocess.Popen[bytes]:
         """Starts the hub, and waits until it serves the page."""
@@ -96,7 +106,7 @@ class Scene:
         with open(config, "w", encoding="utf-8") as it:
             it.write(f'[controller]\nsite_file = "{plan}"\nname = "Depot North"\nreconnect_seconds = 0.5\n[poll]\nstate_seconds = {state_seconds}\nradios_seconds = 1\n[http]\nport = {self.port}\n'
                      f'[line_port]\nsocket = "{self.folder}/console.sock"\n[audit]\nfile = "{self.folder}/audit.jsonl"\n'
-                     f'[records]\nfile = "{self.folder}/site.db"\nread_seconds = 1\n')
+                     f'[records]\nfile = "{self.folder}/site.db"\nread_seconds = 1\n[names]\nfile = "{self.names}"\nread_seconds = 0.2\n')
         hub = subprocess.Popen(tool_words("hub", "--config", config), stderr=subprocess.DEVNULL, preexec_fn=ends_with_parent())
         until = time.monotonic() + 30
         while True:

@@ -72,8 +72,8 @@ class Documented(unittest.TestCase):
         counts = sum(span.octets() for span in RecordSamples().spans.values())
         for text in (f"their counts take {counts:,} octets", f"The samples take {samples:,} octets", f"The last {MOST_ENDED:,} calls that ended take {len(CallLog().ended.octets):,} octets", f"at most, {MOST_ENDED:,}"):
             self.assertIn(text, HUB)
-        self.assertEqual(round(sum(len(it.body) for it in load_page().values()), -4), 60_000)
-        self.assertIn("The page's files, about 60,000 octets", HUB.replace("\n", " "))
+        self.assertEqual(round(sum(len(it.body) for it in load_page().values()), -4), 70_000)
+        self.assertIn("The page's files, about 70,000 octets", HUB.replace("\n", " "))
 
     def test_the_limits(self) -> None:
         """The numbers of the table of limits are those of the code."""

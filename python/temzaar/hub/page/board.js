@@ -4,7 +4,7 @@ import { siteAlarms } from "./alarms.js";
 import { drawCharts, makeCharts } from "./charts.js";
 import { ageText, byId, makeElement, momentText, setText, syncRows } from "./elements.js";
 import { openHistory, refreshHistory } from "./history.js";
-import { onParty, showCalls, showCarriers, showFigures, showQueue, showRadios, updateAges } from "./tables.js";
+import { onParty, showCalls, showCarriers, showFigures, showNames, showQueue, showRadios, updateAges } from "./tables.js";
 
 // Milliseconds between two questions, and how long one may take.
 const STATE_MS = 1000;
@@ -23,16 +23,21 @@ const MISSED_POLLS = 5;
 // How many calls are listed at first, and after "Show more".
 const FEW_CALLS = 15;
 const MANY_CALLS = 200;
+// How many radios, and names that were found, are listed at once: the filter finds the others.
+const MOST_RADIOS = 200;
+const MOST_NAMES = 50;
+const LAST_RADIO = 16_777_215;
 
 // What the hub has answered. `state` came at `came`, in milliseconds of the page's own clock; `isFailing` says that the last question for it had no answer.
-const known = { state: null, came: performance.now(), isFailing: false, radios: null, pollSeconds: 1, calls: FEW_CALLS, span: "hour" };
+const known = { state: null, came: performance.now(), isFailing: false, pollSeconds: 1, calls: FEW_CALLS, span: "hour" };
 
-// The last answers that had a tag, by their paths. The browser is not to keep who calls whom on its disk, so they are kept here.
+// The last answers that had a tag, by their paths without the query. The browser is not to keep who calls whom on its disk, so they are kept here.
 const tagged = new Map();
 
 /** The answer of a path as JSON; the one before if nothing has changed. Error: there is none, or it is not 200. */
 async function askPath(path) {
-  const before = tagged.get(path);
+  const [place] = path.split("?");
+  const before = tagged.get(place)?.path === path ? tagged.get(place) : null;
   const answer = await fetch(path, { signal: AbortSignal.timeout(PATIENCE_MS), headers: before ? { "If-None-Match": before.tag } : {} });
   if (before && answer.status === NOT_MODIFIED) {
     return before.view;
@@ -42,7 +47,7 @@ async function askPath(path) {
   }
   const view = await answer.json();
   if (answer.headers.has("ETag")) {
-    tagged.set(path, { tag: answer.headers.get("ETag"), view });
+    tagged.set(place, { path, tag: answer.headers.get("ETag"), view });
   }
   return view;
 }
@@ -57,6 +62,8 @@ function repeatTask(task, pause) {
     } catch (fault) {
       console.warn(String(fault));
     }
+    // it may have been run twice meanwhile
+    clearTimeout(timer);
     timer = setTimeout(run, pause() * (document.hidden ? HIDDEN_FACTOR : 1));
   };
   document.addEventListener("visibilitychange", () => {
@@ -121,9 +128,18 @@ function limitsText(view) {
     + `The hub keeps the last ${view.kept.toLocaleString("en")} of them, until it is restarted.`;
 }
 
+/** Asks for the radios and the names that fit what is typed, and shows them, unless something else has been typed meanwhile. */
 async function refreshRadios() {
-  known.radios = await askPath("/v1/radios.json");
-  filterRadios();
+  const [text, digits] = [typedText(), typedDigits()];
+  const begins = digits ? `&begins=${digits}` : "";
+  const [radios, names] = await Promise.all([
+    askPath(`/v1/radios.json?most=${MOST_RADIOS}${begins}`),
+    text ? askPath(`/v1/names.json?most=${MOST_NAMES}&find=${encodeURIComponent(text)}`) : null,
+  ]);
+  if (text === typedText()) {
+    showRadios(radios, digits, text !== digits);
+    showNames(names, text);
+  }
 }
 
 async function refreshCharts() {
@@ -200,24 +216,27 @@ function showTimes() {
   updateAges(isPresent ? (now - known.came) / 1000 : 0);
 }
 
-/** The digits that are typed in the filter of radios. */
-function typedDigits() {
-  return byId("radio-filter").value.replace(/\D/g, "");
+/** What is typed in the filter of radios. */
+function typedText() {
+  return byId("radio-filter").value.trim();
 }
 
-function filterRadios() {
-  byId("radio-open").disabled = !typedDigits();
-  showRadios(known.radios, typedDigits());
+/** The same, if it is a radio's number; else nothing. */
+function typedDigits() {
+  return /^[1-9]\d*$/.test(typedText()) && Number(typedText()) <= LAST_RADIO ? typedText() : "";
 }
 
 function openTyped() {
-  if (Number(typedDigits()) > 0) {
+  if (typedDigits()) {
     openHistory("radio", Number(typedDigits()));
   }
 }
 
-function listenToControls(askCalls, askCharts) {
-  byId("radio-filter").addEventListener("input", filterRadios);
+function listenToControls(askCalls, askRadios, askCharts) {
+  byId("radio-filter").addEventListener("input", () => {
+    byId("radio-open").disabled = !typedDigits();
+    askRadios();
+  });
   byId("radio-filter").addEventListener("keydown", (event) => event.key === "Enter" && openTyped());
   byId("radio-open").addEventListener("click", openTyped);
   byId("calls-more").addEventListener("click", () => {
@@ -238,7 +257,7 @@ onParty(openHistory);
 makeCharts();
 repeatTask(refreshState, () => STATE_MS);
 const askCalls = repeatTask(refreshCalls, () => CALLS_MS);
-repeatTask(refreshRadios, () => RADIOS_MS);
+const askRadios = repeatTask(refreshRadios, () => RADIOS_MS);
 const askCharts = repeatTask(refreshCharts, () => HISTORY_MS[known.span]);
-listenToControls(askCalls, askCharts);
+listenToControls(askCalls, askRadios, askCharts);
 setInterval(showTimes, TIMES_MS);

@@ -33,6 +33,16 @@ function fillElement(element, attributes, children) {
   return element;
 }
 
+/** A text with a name beside it, if there is one: `radio 1001 [Bus 12]`. No name has a bracket. */
+export function namedText(text, name) {
+  return name ? `${text} [${name}]` : String(text);
+}
+
+/** The same as children of an element. A name may be written from right to left: that turns nothing else. */
+export function namedNodes(text, name) {
+  return name ? [String(text), makeElement("span", { class: "named" }, " [", makeElement("bdi", {}, name), "]")] : [String(text)];
+}
+
 /** Sets a text, unless it is there already: a screen reader is not to read it again. */
 export function setText(element, text) {
   if (element.textContent !== text) {

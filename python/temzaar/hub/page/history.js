@@ -1,6 +1,6 @@
 // The history of a radio or a group, in a dialog: the calls of it that the hub has seen.
 
-import { byId, setText, wordsOfSeconds } from "./elements.js";
+import { byId, namedText, setText, wordsOfSeconds } from "./elements.js";
 import { showCalls } from "./tables.js";
 
 const MOST_CALLS = 200;
@@ -10,9 +10,9 @@ const dialog = byId("history");
 let shown = null;
 
 /** Opens the history of a radio or a group. */
-export function openHistory(kind, number) {
+export function openHistory(kind, number, name) {
   shown = { kind, number };
-  setText(byId("history-title"), `Calls of ${kind} ${number}`);
+  showTitle(name);
   setText(byId("history-note"), "Loading");
   showCalls(byId("history-rows"), []);
   if (!dialog.open) {
@@ -20,6 +20,10 @@ export function openHistory(kind, number) {
   }
   byId("history-title").focus();
   refreshHistory();
+}
+
+function showTitle(name) {
+  setText(byId("history-title"), `Calls of ${namedText(`${shown.kind} ${shown.number}`, name)}`);
 }
 
 /** Asks for the calls again, if the dialog is open. */
@@ -32,6 +36,7 @@ export async function refreshHistory() {
     const answer = await fetch(`/v1/calls.json?${kind}=${number}&last=${MOST_CALLS}`);
     const view = await answer.json();
     if (shown?.kind === kind && shown.number === number) {
+      showTitle(view.name);
       showCalls(byId("history-rows"), view.calls);
       setText(byId("history-note"), noteOf(view));
     }

@@ -1,9 +1,7 @@
 // The parts of the board that show one picture: figures, carriers with their slots, the queue, calls and radios.
 
-import { ageText, byId, makeElement, refillElement, setText, syncRows, timeElement } from "./elements.js";
+import { ageText, byId, makeElement, namedNodes, namedText, refillElement, setText, syncRows, timeElement } from "./elements.js";
 
-// How many radios are listed at once: the filter finds the others.
-const MOST_RADIOS = 200;
 // The states of slots: a mark that says the same as the colour, and the words for it.
 const STATES = {
   off: ["✕", "control DOWN"],
@@ -21,10 +19,16 @@ export function onParty(open) {
   openHistory = open;
 }
 
-/** A button with the name of a radio or a group, which opens its history; with the number alone if `isShort`. */
-function partyButton(kind, number, isShort = false) {
-  const name = `${kind} ${number}`;
-  return makeElement("button", { type: "button", class: "party", title: `Calls of ${name}`, "aria-label": name, click: () => openHistory(kind, number) }, isShort ? String(number) : name);
+/** A button with the number of a radio or a group and its name, if it has one, which opens its history; without the kind if `isShort`. */
+function partyButton(kind, number, name, isShort = false) {
+  const label = namedText(`${kind} ${number}`, name);
+  const attributes = { type: "button", class: "party", title: `Calls of ${label}`, "aria-label": label, click: () => openHistory(kind, number, name) };
+  return makeElement("button", attributes, ...namedNodes(isShort ? number : `${kind} ${number}`, name));
+}
+
+/** What a row shows of the parties of a call or a request, as a text. */
+function partiesText(it) {
+  return [it.kind, it.target, it.target_name, it.source, it.source_name].join("|");
 }
 
 /** An element for an age, which `updateAges` keeps up to date. `seconds` is the age when the state came; null if it is not known. */
@@ -57,12 +61,16 @@ function setFigure(name, value, more = "", level = "") {
   refillElement(figure.querySelector("dd"), `${value}|${more}`, () => [makeElement("strong", {}, String(value)), " ", ...(more ? [makeElement("span", { class: "more" }, more)] : [])]);
 }
 
+function controlText(control) {
+  return namedText(`carrier ${control.carrier}`, control.name);
+}
+
 /** The value of the control channel's figure, what is below it, and its level. */
 function controlFigure(state) {
   if (state.control && !state.control.up) {
-    return ["DOWN", `carrier ${state.control.carrier}`, "bad"];
+    return ["DOWN", controlText(state.control), "bad"];
   }
-  return state.fill.kind === "move" ? ["moved", `to channel ${state.fill.channel}`, "warn"] : ["on air", state.control ? `carrier ${state.control.carrier}` : "", "good"];
+  return state.fill.kind === "move" ? ["moved", `to channel ${state.fill.channel}`, "warn"] : ["on air", state.control ? controlText(state.control) : "", "good"];
 }
 
 /** Shows the figures of a state. */
@@ -83,7 +91,8 @@ export function showFigures(state, radios) {
 
 function callElements(call) {
   return [
-    makeElement("span", { class: "parties" }, partyButton(call.kind, call.target), makeElement("span", { class: "from" }, " from ", partyButton("radio", call.source, true))),
+    makeElement("span", { class: "parties" }, partyButton(call.kind, call.target, call.target_name),
+      makeElement("span", { class: "from" }, " from ", partyButton("radio", call.source, call.source_name, true))),
     " ",
     ageElement(call.age_seconds, call.older),
   ];
@@ -105,8 +114,8 @@ function fillCarrier(row, carrier) {
     row.append(makeElement("th", { scope: "row" }), ...carrier.slots.map(() => makeElement("td")));
   }
   row.classList.toggle("down", !carrier.up);
-  refillElement(row.children[0], `${carrier.number}|${carrier.up}|${carrier.since}`, () => [
-    makeElement("span", { class: "carrier" }, String(carrier.number)),
+  refillElement(row.children[0], `${carrier.number}|${carrier.name}|${carrier.up}|${carrier.since}`, () => [
+    makeElement("span", { class: "carrier", title: carrier.name }, ...namedNodes(carrier.number, carrier.name)),
     " ",
     carrier.up ? makeElement("span", { class: "state" }, "up") : makeElement("span", { class: "state" }, "✕ DOWN since ", timeElement(carrier.since)),
   ]);
@@ -115,7 +124,7 @@ function fillCarrier(row, carrier) {
     const call = slot.call;
     const state = shownState(slot, carrier);
     cell.className = `slot ${state}`;
-    refillElement(cell, `${state}|${call ? [call.kind, call.target, call.source, call.older] : ""}`, () => slotElements(slot, state));
+    refillElement(cell, `${state}|${call ? `${partiesText(call)}|${call.older}` : ""}`, () => slotElements(slot, state));
     setAge(cell, call?.age_seconds);
   });
 }
@@ -127,10 +136,10 @@ export function showCarriers(carriers) {
 }
 
 function fillRequest(row, request) {
-  refillElement(row, `${request.place}|${request.kind}|${request.target}|${request.source}`, () => [
+  refillElement(row, `${request.place}|${partiesText(request)}`, () => [
     makeElement("th", { scope: "row" }, String(request.place)),
-    makeElement("td", {}, partyButton(request.kind, request.target)),
-    makeElement("td", {}, partyButton("radio", request.source, true)),
+    makeElement("td", {}, partyButton(request.kind, request.target, request.target_name)),
+    makeElement("td", {}, partyButton("radio", request.source, request.source_name, true)),
     makeElement("td", { class: "number" }, ageElement(request.age_seconds, request.older)),
   ]);
   setAge(row, request.age_seconds);
@@ -155,12 +164,12 @@ function lastedElements(call) {
 
 function fillCall(row, call) {
   row.classList.toggle("active-call", call.ended === null);
-  refillElement(row, `${call.ended}`, () => [
+  refillElement(row, `${call.ended}|${partiesText(call)}|${call.carrier_name}`, () => [
     makeElement("td", {}, timeElement(call.began)),
-    makeElement("td", {}, partyButton(call.kind, call.target)),
-    makeElement("td", {}, partyButton("radio", call.source, true)),
+    makeElement("td", {}, partyButton(call.kind, call.target, call.target_name)),
+    makeElement("td", {}, partyButton("radio", call.source, call.source_name, true)),
     makeElement("td", {}, makeElement("span", { class: "unseen" }, "carrier "), String(call.carrier), makeElement("span", { class: "unseen" }, ", slot "),
-      makeElement("span", { "aria-hidden": "true" }, "/"), String(call.slot)),
+      makeElement("span", { "aria-hidden": "true" }, "/"), ...namedNodes(call.slot, call.carrier_name)),
     makeElement("td", { class: "number" }, ...lastedElements(call)),
   ]);
 }
@@ -171,23 +180,41 @@ export function showCalls(body, calls) {
   syncRows(body, calls, (call) => `${call.recorded} ${call.number} ${call.began}`, fillCall);
 }
 
-/** Shows the registered radios whose numbers begin with the filter's digits. */
-export function showRadios(radios, filter) {
-  const found = radios ? radios.registered.filter((radio) => String(radio).startsWith(filter)) : [];
-  const shown = found.slice(0, MOST_RADIOS);
+/** Shows the registered radios that the hub was asked for: those whose numbers begin with `digits`, or all; none of them while a text is searched for. */
+export function showRadios(radios, digits, isText) {
+  const shown = radios && !isText ? radios.registered : [];
   syncRows(byId("radios-list"), shown, (radio) => radio, (item, radio) => {
-    if (!item.children.length) {
-      item.append(partyButton("radio", radio, true));
-    }
+    const name = radios.names[radio];
+    refillElement(item, `${name}`, () => [partyButton("radio", radio, name, true)]);
   });
-  setText(byId("radios-note"), radiosNote(radios, filter, found.length, shown.length));
+  setText(byId("radios-note"), radiosNote(radios, isText ? "" : digits, isText ? 0 : shown.length));
 }
 
-function radiosNote(radios, filter, found, shown) {
+function radiosNote(radios, digits, shown) {
   if (!radios) {
     return "No list of radios yet.";
   }
-  const all = radios.complete ? `${radios.registered.length} registered` : `more than ${radios.registered.length} registered`;
-  const matching = filter ? `, ${found} begin with ${filter}` : "";
-  return `${all}${matching}${shown < found ? `; the first ${shown} are listed` : ""}.`;
+  const all = radios.complete ? `${radios.count} registered` : `more than ${radios.count} registered`;
+  const matching = digits ? `, ${radios.found} begin with ${digits}` : "";
+  return `${all}${matching}${shown && shown < radios.found ? `; the first ${shown} are listed` : ""}.`;
+}
+
+function foundNodes(it) {
+  if (it.kind === "carrier") {
+    return namedNodes(`carrier ${it.number}`, it.name);
+  }
+  const button = partyButton(it.kind === "radio" ? "radio" : "group", it.number, it.name);
+  return it.registered === false ? [button, makeElement("span", { class: "more" }, " not registered")] : [button];
+}
+
+/** Shows the names that were found by a text; null: none was searched for. */
+export function showNames(found, text) {
+  const names = found ? found.names : [];
+  syncRows(byId("names-list"), names, (it) => `${it.kind} ${it.number}`, (item, it) => {
+    refillElement(item, `${it.name}|${it.registered}`, () => foundNodes(it));
+  });
+  const count = names.length === 1 ? "1 name has" : `${names.length || "No"} names have`;
+  const shown = found?.complete ? count : `More than ${names.length} names, of which these are the first, have`;
+  byId("names-note").hidden = !found;
+  setText(byId("names-note"), found ? `${shown} “${text}” in ${names.length === 1 ? "it" : "them"}.` : "");
 }

@@ -1,13 +1,16 @@
 """A connection to the hub's port for operators (docs/HUB.md), and what a line that is being typed may be completed to."""
+import contextlib
 import os
 import select
 import socket
 import struct
-from collections.abc import Iterator
+import time
+from collections.abc import Iterable, Iterator
 
-from temzaar.console import CHANGES, QUESTIONS, Console, ConsoleFault, read_calls, read_radios, read_slots
+from temzaar.console import CHANGES, LONGEST_LINE, QUESTIONS, Console, ConsoleFault, read_calls, read_radios, read_slots
 from temzaar.hub.config import LinePortKeys
-from temzaar.hub.lines import AWAY, BUSY, HUB_LISTS, NO_ANSWER, OWN, WHO_SITE, unescape_octets
+from temzaar.hub.lines import AWAY, BUSY, HUB_LISTS, NAME, NO_ANSWER, OWN, WHO_SITE, unescape_octets
+from temzaar.names import KINDS, Bearer, Kind, Names, bearers_in, names_of, read_name
 from temzaar.printable import printable
 
 # A variable of the environment that names another socket than the usual one.
@@ -16,6 +19,8 @@ VARIABLE = "DMR_HUB_SOCKET"
 WITHOUT_CONTROLLER = tuple(f"error {it}: " for it in (AWAY, NO_ANSWER, BUSY))
 # The digits of the greatest radio.
 MOST_DIGITS = 8
+# Seconds for which the names of the hub are used before it is asked again.
+NAME_SECONDS = 10.0
 
 
 def default_socket() -> str:
@@ -52,6 +57,50 @@ class HubConsole(Console):
         """The site's name in the hub's config; empty if it has none."""
         names = [it.removeprefix(WHO_SITE) for it in self.ask("who") if it.startswith(WHO_SITE)]
         return printable(unescape_octets(names[0]).decode("utf-8", "replace")) if names else ""
+
+
+def name_lines(bearers: Iterable[Bearer]) -> Iterator[str]:
+    """The lines that ask the hub for names, none longer than a line may be."""
+    for kind in Kind:
+        line = ""
+        for number in sorted(number for of_kind, number in bearers if of_kind is kind):
+            if line and len(f"{line} {number}") > LONGEST_LINE:
+                yield line
+                line = ""
+            line = f"{line or f'names {kind}'} {number}"
+        if line:
+            yield line
+
+
+def ask_names(console: Console, bearers: Iterable[Bearer]) -> Names:
+    """The names that the hub has for some numbers; none if it is a hub that does not know the command. ConsoleFault: it does not answer."""
+    wanted = set(bearers)
+    replies = [row.split(" ", 3) for line in name_lines(wanted) for row in console.ask(line)]
+    rows: list[tuple[Bearer, str]] = []
+    for words in replies:
+        # what is not a name is left out, whatever program answers
+        with contextlib.suppress(ValueError):
+            word, kind, number, text = words
+            if f"{word} " == NAME:
+                rows.append(((Kind(kind), int(number)), read_name(unescape_octets(text).decode("utf-8"))))
+    return names_of(rows)
+
+
+class HubNames:
+    """The names that a hub has, which is asked again after NAME_SECONDS."""
+
+    def __init__(self, console: Console) -> None:
+        self.console, self.known, self.until, self.fault = console, dict[Bearer, str | None](), 0.0, ""
+
+    def find(self, texts: Iterable[str]) -> Names:
+        """The names that stand beside the numbers of some texts. ConsoleFault: the hub does not answer."""
+        now, wanted = time.monotonic(), set(bearers_in(texts))
+        if now >= self.until:
+            self.known, self.until = {}, now + NAME_SECONDS
+        if missing := wanted - self.known.keys():
+            names = ask_names(self.console, missing)
+            self.known.update({it: names.name_of(*it) for it in missing})
+        return names_of((it, name) for it, name in self.known.items() if name)
 
 
 def connect_patiently(stream: socket.socket, path: str, seconds: float) -> None:
@@ -117,7 +166,9 @@ class Completions:
         """The words that fit after those before."""
         if not before:
             yield from (*QUESTIONS, *CHANGES, *OWN)
-        elif before in (["drop"], ["radios"]):
+        elif before == ["names"]:
+            yield from KINDS
+        elif before in (["drop"], ["radios"], ["names", "radio"]):
             yield from self._radios(begun)
         elif before == ["calls"]:
             yield from (str(carrier) for carrier, _ in read_slots(self.console.ask("slots")))

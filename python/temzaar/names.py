@@ -10,7 +10,7 @@ from dataclasses import dataclass, field
 from enum import StrEnum
 from types import MappingProxyType
 
-from temzaar.faults import ToolFault, read_octets
+from temzaar.faults import ToolFault, file_state, read_octets
 from temzaar.printable import cut_text, printable
 
 # What a file of names may have at most: octets, lines, and characters of a name.
@@ -224,3 +224,22 @@ def read_names(path: str) -> NamesFile:
     if fault := found.fault():
         raise NamesFault(fault)
     return found
+
+
+class FileNames:
+    """The names of a file that is read again when it has changed. Of a file that cannot be used nothing is taken."""
+
+    def __init__(self, path: str) -> None:
+        """NamesFault: the file cannot be used."""
+        self.path, self.state, self.file, self.fault = path, file_state(path), read_names(path), ""
+
+    def find(self, _: Iterable[str]) -> Names:
+        """The names that stand beside the numbers of some texts: all of them."""
+        state = file_state(self.path)
+        if state != self.state:
+            self.state, self.fault = state, ""
+            try:
+                self.file = read_names(self.path)
+            except NamesFault as fault:
+                self.fault = f"names: {fault}"
+        return self.file.names

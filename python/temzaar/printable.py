@@ -26,14 +26,17 @@ def columns_of(text: str) -> int:
     return sum(0 if unicodedata.combining(it) else 2 if unicodedata.east_asian_width(it) in "WF" else 1 for it in text)
 
 
+def clipped(text: str, columns: int) -> str:
+    """The beginning of a text that takes at most `columns`."""
+    text = text[:max(0, columns)]
+    while text and columns_of(text) > columns:
+        text = text[:-1]
+    return text
+
+
 def cut_text(text: str, columns: int) -> str:
     """A text that takes at most `columns`; one that is wider ends with CUT."""
-    if columns_of(text) <= columns:
-        return text
-    kept = text
-    while kept and columns_of(kept) > columns - len(CUT):
-        kept = kept[:-1]
-    return f"{kept.rstrip()}{CUT}"
+    return text if columns_of(text) <= columns else f"{clipped(text, columns - len(CUT)).rstrip()}{CUT}"
 
 
 def padded(text: str, columns: int) -> str:

@@ -5,16 +5,21 @@ import os
 import pty
 import select
 import subprocess
+import tempfile
 import time
 import unittest
 from unittest import mock
 
-from temzaar.cli.siteview import Prompt, View
+from temzaar.cli.siteview import Prompt, View, plain_text
 from temzaar.console import Console
-from temzaar.hubconsole import Completions, HubConsole, has_ended
+from temzaar.hub.config import NamesKeys
+from temzaar.hub.service import Hub
+from temzaar.hubconsole import Completions, HubConsole, HubNames, ask_names, has_ended, name_lines
+from temzaar.names import NO_NAMES, FileNames, Kind
 from tests.fake_console import FakeConsole
 from tests.hub_support import FULL, NONE, HubCase, wait_until
 from tests.support import tool_words
+from tests.test_siteview import Written
 
 STATUS = "status carriers 2 radios 40 asks 0 lines 1 calls 2 fill aloha\n"
 
@@ -75,6 +80,26 @@ class Command(ToolCase):
         with open(os.path.join(self.folder, "dmr_console", "history"), encoding="utf-8") as it:
             self.assertIn("status \n", it.read())
 
+    async def start_with_names(self) -> Hub:
+        """A hub with names."""
+        path = os.path.join(self.folder, "names.csv")
+        with open(path, "w", encoding="utf-8") as it:
+            it.write("radio,1001,Süd 12\nradio,1003,Bus 13\ntalkgroup,91,Drivers\ncarrier,0,Mast North\n")
+        hub = await self.start(config=dataclasses.replace(self.config(), names=NamesKeys(path, 0.05)))
+        await wait_until(lambda: hub.book.version)
+        return hub
+
+    async def test_names_on_a_terminal(self) -> None:
+        """They stand beside numbers on a terminal. In a pipe a program gets the octets of the controller and of the hub."""
+        await self.start_with_names()
+        shown = await asyncio.to_thread(self.type_keys, ["calls 0\n", "slots\n", "radios 1001\n", "drop 1003\n", "history\n", "names radio 1003\n", "names r\t7\n", "quit\n"])
+        for text in ("call 0 [Mast North] 1 group 91 [Drivers] from 1001 [Süd 12]\r\n", "slot 0 [Mast North] 1 call\r\n", "radio 1001 [Süd 12]\r\nradio 1002\r\nradio 1003 [Bus 13]\r\n",
+                     "answered: drop 1003 [Bus 13]: ok\r\n", "name radio 1003 [Bus 13] Bus 13\r\n", "names radio 7\r\n"):
+            self.assertIn(text, shown)
+        done = await self.run_console(given="calls 0\nnames radio 1001\n")
+        self.assertEqual(done.stdout, "call 0 1 group 91 from 1001\nend\nname radio 1001 S\\xc3\\xbcd 12\nend\n")
+        self.assertEqual([it for it in self.fake.asked if "names" in it], [])
+
     def type_keys(self, pieces: list[str]) -> str:
         """What the command shows on a terminal on which these keys are typed, each piece after a prompt. AssertionError: it does not end well."""
         ours, theirs = pty.openpty()
@@ -108,6 +133,22 @@ class Siteview(ToolCase):
             self.assertIn("carriers 2 of 2 up   radios 40   asks 0   lines 1   calls 2   fill aloha\n", done.stdout)
             self.assertIn("group 91 from 1001\n", done.stdout)
         self.assertEqual(self.fake.connections, 1)
+
+    async def test_names(self) -> None:
+        """Those of the hub, or those of the file that the words name."""
+        path = os.path.join(self.folder, "names.csv")
+        with open(path, "w", encoding="utf-8") as it:
+            it.write("radio,1001,Bus 12\ntalkgroup,94,Night\ncarrier,1,Mast South\nx\n")
+        hub = await self.start(config=dataclasses.replace(self.config(), names=NamesKeys(path, 0.05)))
+        await wait_until(lambda: hub.book.version)
+        shown, noted = ("group 91 from 1001 [Bus 12]\n", "   1 [Mast South]  radio 1002 from 1003", "   1     group 94 [Night] from 1004\n"), f"siteview: {path}: line 4: "
+        for words, said in (((), ""), (("--names", path), noted)):
+            done = await self.run_tool("siteview", "--site", self.site, "--once", *words)
+            self.assertEqual((done.returncode, done.stderr[:len(noted)]), (0, said))
+            for text in shown:
+                self.assertIn(text, done.stdout)
+        done = await self.run_tool("siteview", "--site", self.site, "--once", "--names", path + "x")
+        self.assertEqual((done.returncode, done.stderr), (1, f"siteview: {path}x: No such file or directory\n"))
 
     async def test_the_name_of_the_site(self) -> None:
         """It is that of the hub's config, or that of the words."""
@@ -209,3 +250,67 @@ class Connected(HubCase):
         await asyncio.sleep(0.1)
         self.assertTrue(has_ended(console))
         console.close()
+
+
+class Replies:
+    """A console whose replies to `names` are written down. `asked` has its lines."""
+
+    def __init__(self, *rows: str) -> None:
+        self.rows, self.asked = list(rows), list[str]()
+
+    def ask(self, line: str) -> list[str]:
+        """The rows."""
+        self.asked.append(line)
+        return self.rows
+
+
+class NamesOfTheHub(unittest.TestCase):
+    """What a client asks the hub for names, and what it takes for one."""
+
+    def test_lines(self) -> None:
+        """None is longer than a line may be, and each number is asked for once."""
+        lines = [*name_lines({(Kind.RADIO, it) for it in range(16777200, 16777216)} | {(Kind.CARRIER, 0), (Kind.TALKGROUP, 91)})]
+        self.assertEqual(([it.split()[1] for it in lines], max(map(len, lines)) <= 80), (["radio", "radio", "radio", "talkgroup", "carrier"], True))
+        self.assertEqual(sorted(int(word) for it in lines for word in it.split()[2:]), sorted([0, 91, *range(16777200, 16777216)]))
+
+    def test_what_is_no_name_is_left_out(self) -> None:
+        console = Replies("name radio 1001 S\\xc3\\xbcd", "name radio 1002 a]b", "name radio 1003 \\x1b[2J", "name radio 1004", "name bus 1 a", "name radio x a", "names radio 5 a", "error unknown command", "")
+        names = ask_names(console, {(Kind.RADIO, 1001)})  # type: ignore[arg-type]
+        self.assertEqual((len(names), names.name_of(Kind.RADIO, 1001)), (1, "Süd"))
+        self.assertEqual(len(ask_names(Replies("error unknown command"), {(Kind.RADIO, 1)})), 0)  # type: ignore[arg-type]
+
+    def test_the_hub_is_asked_again_after_some_seconds(self) -> None:
+        console = Replies("name radio 1001 Bus 12")
+        source = HubNames(console)  # type: ignore[arg-type]
+        with mock.patch("temzaar.hubconsole.time.monotonic", return_value=100.0) as clock:
+            for texts in (["group 91 from 1001"], ["group 91 from 1001"], ["radio 1001 from 1001"]):
+                self.assertEqual(source.find(texts).name_of(Kind.RADIO, 1001), "Bus 12")
+            self.assertEqual(console.asked, ["names radio 1001", "names talkgroup 91"])
+            source.find(["radio 1002 from 1001"])
+            self.assertEqual(console.asked[2:], ["names radio 1002"])
+            clock.return_value = 110.5
+            source.find(["group 91 from 1001"])
+        self.assertEqual(console.asked[3:], ["names radio 1001", "names talkgroup 91"])
+
+    def test_a_file_that_changes(self) -> None:
+        """It is read again; of a file that cannot be used nothing is taken, and the picture says so."""
+        with tempfile.TemporaryDirectory() as folder:
+            path = os.path.join(folder, "names.csv")
+            write_file(path, "radio,1003,Bus 12\n")
+            source = FileNames(path)
+            view = View(Written(), "here", source)
+            for text, shown, fault in (("", "[Bus 12]", ""), ("radio,1003,Tram 7\n", "[Tram 7]", ""), ("nothing\n", "[Tram 7]", f"names: {path}: line 1: not kind,number,name"), ("radio,1003,Bus 9\n", "[Bus 9]", "")):
+                if text:
+                    write_file(f"{path}.new", text)
+                    os.replace(f"{path}.new", path)
+                view.look()
+                rows = plain_text(view.rows())
+                self.assertIn(f"radio 1002 from 1003 {shown}", rows)
+                self.assertEqual((source.fault[:len(fault)], bool(source.fault), source.fault in rows), (fault, bool(fault), True))
+        self.assertEqual(len(NO_NAMES), 0)
+
+
+def write_file(path: str, text: str) -> None:
+    """Writes a file."""
+    with open(path, "w", encoding="utf-8") as it:
+        it.write(text)

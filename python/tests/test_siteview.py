@@ -2,6 +2,7 @@
 import unittest
 
 from temzaar.cli.siteview import Prompt, paint_rows, picture_rows, plain_text
+from temzaar.names import parse_names
 from temzaar.picture import Ages, take_picture
 
 REPLIES = {
@@ -17,6 +18,18 @@ carriers 1 of 2 up   radios 4   asks 0   lines 1   calls 2   fill move 7
 carrier  slot 0                                  slot 1
    0     control (C_MOVE to 7)                   group 91 from 1001
    1     radio 1002 from 1003                    free
+
+waiting for a slot
+   1     group 94 from 1004
+"""
+
+
+NAMED = """\
+carriers 1 of 2 up   radios 4   asks 0   lines 1   calls 2   fill move 7
+
+carrier            slot 0                                                     slot 1
+   0 [Mast North]  control (C_MOVE to 7)                                      group 91 [Drivers] from 1001 [Bus 12]
+   1 [1]           radio 1002 [東京駅前広..] from 1003 [Linienbus..]          free
 
 waiting for a slot
    1     group 94 from 1004
@@ -43,6 +56,12 @@ class Shown(unittest.TestCase):
         self.assertTrue(text.startswith("site here   "))
         self.assertEqual(text.partition("\n")[2], SHOWN)
 
+    def test_names(self) -> None:
+        """Beside numbers, cut to twelve columns; the columns of the table are as wide as they need. Without names nothing changes."""
+        names = parse_names("radio,1001,Bus 12\nradio,1002,東京駅前広場行き\nradio,1003,Linienbus Nordring\ntalkgroup,91,Drivers\ncarrier,0,Mast North\ncarrier,1,1\n".encode(), "").names
+        text = plain_text(picture_rows(take_picture(Written()), "here", Ages(), 0, names))
+        self.assertEqual(text.partition("\n")[2], NAMED)
+
     def test_ages(self) -> None:
         ages, console = Ages(), Written()
         ages.look(take_picture(console), 10.0)
@@ -65,6 +84,10 @@ class Shown(unittest.TestCase):
     def test_a_queue_that_empties_between_two_answers(self) -> None:
         picture = take_picture(Written(**{"lines 1": []}))
         self.assertEqual(picture.lines, [])
+
+    def test_painted_rows_of_wide_characters_fit_too(self) -> None:
+        painted = paint_rows([[("東京駅前広場", ""), ("abc", "")]], 9, 4)
+        self.assertIn("\x1b[H東京駅前a\x1b[K", painted)
 
     def test_painted_rows_fit_the_terminal(self) -> None:
         painted = paint_rows(picture_rows(take_picture(Written()), "here", Ages(), 0), 20, 4)

@@ -4,7 +4,8 @@
     console status               this one line
     console <lines.txt           these lines, one after another
 
-`help` lists the commands. The hub has to run, and its config file has to have a role for the user. DMR_HUB_SOCKET in the environment names another
+`help` lists the commands. On a terminal the names of radios, talkgroups and carriers stand beside their numbers, if the hub has them. In a pipe each reply is
+that of the hub, octet by octet. Numbers alone are typed. The hub has to run, and its config file has to have a role for the user. DMR_HUB_SOCKET in the environment names another
 socket than /run/dmr_hub/console.sock.
 
 Status: 0 each line was answered, and with no error; 1 the hub, named on standard error; 2 the words; 3 a reply was an error.
@@ -16,9 +17,10 @@ import sys
 from collections.abc import Iterator, Sequence
 
 from temzaar.cli.command import address_of_words, amount_above, clean_up_on_signals, parse_words, run_command
-from temzaar.console import Console
+from temzaar.console import Console, ConsoleFault
 from temzaar.faults import ToolFault
-from temzaar.hubconsole import Completions, HubConsole, HubPort, default_socket, has_ended
+from temzaar.hubconsole import Completions, HubConsole, HubPort, ask_names, default_socket, has_ended
+from temzaar.names import bearers_in
 from temzaar.printable import printable
 
 HISTORY_LINES = 1000
@@ -59,11 +61,22 @@ class Operator:
             self.console = connect(self.options)
         reply = self.console.exchange(line)
         if sys.stdout.isatty():
-            reply = [printable(it.decode("ascii", "backslashreplace")).encode("ascii") for it in reply]
-        sys.stdout.buffer.write(b"".join(it + b"\n" for it in reply))
-        sys.stdout.buffer.flush()
+            sys.stdout.write("".join(f"{it}\n" for it in self.with_names([printable(it.decode("ascii", "backslashreplace")) for it in reply])))
+            sys.stdout.flush()
+        else:
+            # a program gets the octets of the hub
+            sys.stdout.buffer.write(b"".join(it + b"\n" for it in reply))
+            sys.stdout.buffer.flush()
         if reply[0].startswith(b"error"):
             self.status = REFUSED
+
+    def with_names(self, reply: list[str]) -> list[str]:
+        """The lines of a reply, with the names that the hub has beside numbers."""
+        try:
+            names = ask_names(self.console, bearers_in(reply))
+        except ConsoleFault:
+            return reply
+        return [names.in_text(it) for it in reply]
 
     def completions(self, before: str, begun: str) -> list[str]:
         """What the last word of a line may be."""

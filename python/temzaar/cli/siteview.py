@@ -9,6 +9,9 @@ Live, the keys type a line to the operator's console; Enter sends it, and the an
 one operator is served at a time: while siteview is connected, another console waits, so type here. An age is how long siteview has seen a call or a
 request; `>` says that it was there before. The controller reports no ages, so --once shows none.
 
+The names of radios, talkgroups and carriers stand beside their numbers: those of the hub, or of the file that --names names, which is read again when it
+changes. Numbers alone are typed.
+
 Status: 0 it was left, or the picture printed; 1 the site file, the console or the hub, named on standard error; 2 the words.
 """
 import argparse
@@ -21,18 +24,21 @@ import textwrap
 import time
 import tty
 from collections.abc import Iterable, Iterator, Sequence
+from typing import Protocol
 
-from temzaar.cli.command import address_of_words, amount_above, clean_up_on_signals, parse_words, run_command
+from temzaar.cli.command import add_names_option, address_of_words, amount_above, clean_up_on_signals, parse_words, print_note, run_command
 from temzaar.console import LONGEST_LINE, Console, ConsoleFault, SlotKey, Status
-from temzaar.hubconsole import ControllerAway, HubConsole, find_hub
+from temzaar.hubconsole import ControllerAway, HubConsole, HubNames, find_hub
+from temzaar.names import NO_NAMES, FileNames, Kind, Names, named
 from temzaar.picture import Ages, Asked, Picture, take_picture
-from temzaar.printable import printable
+from temzaar.printable import clipped, columns_of, padded, printable
 from temzaar.sitefile import read_console_place
 
 BOLD, PLAIN = "\x1b[1m", "\x1b[0m"
 OFF_AIR = "control DOWN: the site is off the air"
 COLOURS = {"call": "\x1b[1;32m", "control": "\x1b[36m", "down": "\x1b[1;31m", "waiting": "\x1b[33m", "free": "\x1b[2m"}
-CELL = 40
+# The columns of a carrier, of the parties of a call, and of a slot; more if names need them. Names are cut to SHORT_COLUMNS.
+FIRST, PARTIES, CELL, SHORT_COLUMNS = 9, 30, 40, 12
 LEAVE = "\x04"
 # More than a line may have: the controller says so itself.
 MOST_TYPED = LONGEST_LINE + 20
@@ -42,8 +48,22 @@ Part = tuple[str, str]
 Row = list[Part]
 
 
-def slot_cell(picture: Picture, slot: SlotKey, age: str) -> Part:
-    """The text of a slot, and its state."""
+class NameSource(Protocol):
+    """Where names come from; `fault` is why they may be old ones."""
+    fault: str
+
+    def find(self, texts: Iterable[str]) -> Names:
+        """The names that stand beside the numbers of some texts."""
+        ...
+
+
+def texts_of(picture: Picture) -> list[str]:
+    """What a picture shows that may have names."""
+    return [*picture.calls.values(), *picture.lines, *(f"carrier {it}" for it in picture.carriers)]
+
+
+def slot_cell(picture: Picture, slot: SlotKey, parties: str, age: str) -> Part:
+    """The text of a slot, with the parties and the age of its call, and its state."""
     state = picture.slots.get(slot, "-")
     if state == "control" and not picture.is_on_air:
         return OFF_AIR, "down"
@@ -51,12 +71,17 @@ def slot_cell(picture: Picture, slot: SlotKey, age: str) -> Part:
         fill = picture.status.fill
         return f"control ({'C_MOVE to ' + fill.split()[1] if fill.startswith('move ') else 'C_ALOHA'})", state
     if slot in picture.calls:
-        return f"{picture.calls[slot]:<30}{age:>7}", "call"
+        return f"{parties}{age:>7}", "call"
     return state, state
 
 
-def picture_rows(picture: Picture, name: str, ages: Ages, now: float) -> Iterator[Row]:
-    """The picture as rows."""
+def picture_rows(picture: Picture, name: str, ages: Ages, now: float, names: Names = NO_NAMES) -> Iterator[Row]:
+    """The picture as rows, with names beside numbers."""
+    shown = {it: names.in_text(it, SHORT_COLUMNS) for it in (*picture.calls.values(), *picture.lines)}
+    room = max([PARTIES, *map(columns_of, shown.values())])
+    cell = CELL - PARTIES + room
+    carriers = {it: named(f"{it:>4}", names.name_of(Kind.CARRIER, it), SHORT_COLUMNS) for it in picture.carriers}
+    first = max([FIRST, *(columns_of(it) + 2 for it in carriers.values())])
     counts = picture.status.counts
     up = f"carriers {counts['carriers']} of {len(picture.carriers)} up"
     rest = "   ".join(f"{name} {counts[name]}" for name in Status.NAMES[1:])
@@ -64,19 +89,20 @@ def picture_rows(picture: Picture, name: str, ages: Ages, now: float) -> Iterato
     sent = (f"fill {picture.status.fill}", "") if picture.is_on_air else ("no control channel", "down")
     yield [(f"{up}   {rest}   ", ""), sent]
     yield []
-    yield [(f"{'carrier':<9}{'slot 0':<{CELL}}slot 1", "title")]
+    yield [(f"{'carrier':<{first}}{'slot 0':<{cell}}slot 1", "title")]
     for carrier in picture.carriers:
-        row = [(f"{carrier:>4}     ", "")]
+        row = [(padded(carriers[carrier], first), "")]
         for slot in (0, 1):
             key = carrier, slot
-            text, state = slot_cell(picture, key, ages.age(("call", key, picture.calls.get(key, "")), now))
-            row.append((f"{text:<{CELL}}", state))
+            parties = picture.calls.get(key, "")
+            text, state = slot_cell(picture, key, padded(shown.get(parties, ""), room), ages.age(("call", key, parties), now))
+            row.append((padded(text, cell), state))
         yield row
     if picture.lines:
         yield []
         yield [("waiting for a slot", "title")]
         for place, parties in enumerate(picture.lines, 1):
-            yield [(f"{place:>4}     {parties:<30}{ages.age(('line', None, parties), now):>7}", "")]
+            yield [(f"{place:>4}     {padded(shown[parties], room)}{ages.age(('line', None, parties), now):>7}", "")]
 
 
 def plain_text(rows: Iterable[Row]) -> str:
@@ -90,8 +116,8 @@ def paint_rows(rows: Iterable[Row], width: int, height: int) -> str:
     for row in list(rows)[:height]:
         line, left = "", width
         for text, state in row:
-            text = text[:left]
-            left -= len(text)
+            text = clipped(text, left)
+            left -= columns_of(text)
             colour = BOLD if state == "title" else COLOURS.get(state, "")
             line += f"{colour}{text}{PLAIN}" if colour else text
         out.append(line)
@@ -131,8 +157,8 @@ class Screen:
 class Prompt:
     """The line that is being typed, and the answer to the last one."""
 
-    def __init__(self, console: Asked) -> None:
-        self.console, self.typed = console, ""
+    def __init__(self, console: Asked, source: NameSource | None = None) -> None:
+        self.console, self.source, self.typed = console, source, ""
         self.answer: list[str] = []
 
     def take_keys(self, keys: str) -> bool:
@@ -151,7 +177,9 @@ class Prompt:
     def _ask(self, line: str) -> list[str]:
         """The answer to a line, or that there is none."""
         try:
-            return self.console.ask(line)
+            answer = self.console.ask(line)
+            names = self.source.find(answer) if self.source else NO_NAMES
+            return [names.in_text(it) for it in answer]
         except ControllerAway as fault:
             return [str(fault)]
 
@@ -159,28 +187,31 @@ class Prompt:
 class View:
     """The site as it is shown. While the hub reports that the controller is away, only that is shown."""
 
-    def __init__(self, console: Asked, name: str) -> None:
-        self.console, self.name, self.ages, self.away = console, name, Ages(), ""
+    def __init__(self, console: Asked, name: str, source: NameSource | None = None) -> None:
+        self.console, self.name, self.ages, self.away, self.source = console, name, Ages(), "", source
         self.picture: Picture | None = None
+        self.names = NO_NAMES
 
     def look(self) -> None:
         """Takes a new picture. ConsoleFault: the console is at fault."""
         try:
             self.picture = take_picture(self.console)
             self.ages.look(self.picture, time.monotonic())
+            self.names = self.source.find(texts_of(self.picture)) if self.source else NO_NAMES
         except ControllerAway as fault:
             self.picture, self.ages, self.away = None, Ages(), str(fault)
 
     def rows(self) -> Iterable[Row]:
         """The rows to show now."""
         if self.picture:
-            return picture_rows(self.picture, self.name, self.ages, time.monotonic())
+            old: list[Row] = [[(self.source.fault, "down")]] if self.source and self.source.fault else []
+            return [*picture_rows(self.picture, self.name, self.ages, time.monotonic(), self.names), *old]
         return [[(f"site {self.name}   {time.strftime('%H:%M:%S')}", "title")], [(self.away, "down")]]
 
 
-def watch(console: Console, name: str, seconds: float) -> None:
+def watch(console: Console, name: str, seconds: float, source: NameSource | None) -> None:
     """Shows the site, a new picture every `seconds`, until the user leaves it."""
-    view, prompt = View(console, name), Prompt(console)
+    view, prompt = View(console, name, source), Prompt(console, source)
     with Screen() as screen:
         while True:
             until = time.monotonic() + seconds
@@ -210,6 +241,16 @@ def title_of(options: argparse.Namespace, console: Console, place: str) -> str:
     return f"{printable(name)}   {place}" if name else place
 
 
+def name_source(options: argparse.Namespace, console: Console) -> NameSource | None:
+    """Where names come from: the file of the words, else the hub. NamesFault: nothing of the file can be used."""
+    if options.names is None:
+        return HubNames(console) if isinstance(console, HubConsole) else None
+    source = FileNames(options.names)
+    for line in source.file.notes():
+        print_note("siteview", line)
+    return source
+
+
 def read_words(words: Sequence[str] | None) -> argparse.Namespace:
     """The words of the command line."""
     parser = argparse.ArgumentParser(description=__doc__, formatter_class=argparse.RawDescriptionHelpFormatter)
@@ -218,6 +259,7 @@ def read_words(words: Sequence[str] | None) -> argparse.Namespace:
     which.add_argument("--hub", help="the hub, by the path of its socket")
     which.add_argument("--console", type=address_of_words, help="the console, as ADDRESS:PORT, without a hub")
     parser.add_argument("--name", help="the site's name, for the first line (the one of the hub's config file)")
+    add_names_option(parser)
     parser.add_argument("--once", action="store_true", help="print one picture as plain text, and end")
     parser.add_argument("--every", type=amount_above(0, 3600), default=0.25, help="seconds from one picture to the next (0.25)")
     return parse_words(parser, words)
@@ -230,11 +272,14 @@ def show_site(options: argparse.Namespace) -> int:
     opened, place = open_console(options)
     with opened as console:
         name = title_of(options, console, place)
+        source = name_source(options, console)
         if options.once:
-            sys.stdout.write(plain_text(picture_rows(take_picture(console), name, Ages(), 0)))
+            picture = take_picture(console)
+            names = source.find(texts_of(picture)) if source else NO_NAMES
+            sys.stdout.write(plain_text(picture_rows(picture, name, Ages(), 0, names)))
             return 0
         try:
-            watch(console, name, max(0.05, options.every))
+            watch(console, name, max(0.05, options.every), source)
         except KeyboardInterrupt:
             # that is how it is left
             pass

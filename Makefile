@@ -180,7 +180,7 @@ install: build/dmr_trunk build/dmr_decode ## the programs, tools, headers for ba
 	for command in decode siteview timeline callbook capture carriers conform check hub console; do ln -sf dmr_trunk $(DESTDIR)$(COMPLETIONS)/dmr_$$command || exit; done
 	for unit in dmr_trunk dmr_hub dmr_trunk@ dmr_hub@; do sed 's|@PREFIX@|$(PREFIX)|' deploy/$$unit.service >$(DESTDIR)$(PREFIX)/lib/systemd/system/$$unit.service || exit; done
 	ci/install-pages $(DESTDIR)$(DOC)
-	install -m 644 sites/*.toml deploy/hub.toml deploy/Containerfile $(DESTDIR)$(DOC)/examples
+	install -m 644 sites/*.toml sites/names.csv deploy/hub.toml deploy/Containerfile $(DESTDIR)$(DOC)/examples
 	for kind in nftables wireguard stunnel systemd apparmor prometheus grafana; do install -d $(DESTDIR)$(DOC)/examples/$$kind && install -m 644 deploy/$$kind/* $(DESTDIR)$(DOC)/examples/$$kind || exit; done
 	install -m 644 examples/scripts/*.txt $(DESTDIR)$(DOC)/examples/scripts
 	install -m 644 examples/expected/*.txt $(DESTDIR)$(DOC)/examples/expected

@@ -5,14 +5,14 @@ _dmr_options() {
     case $1 in
         dmr_trunk) echo --site --script --serve --terms --version --help ;;
         dmr_decode) echo --site --help ;;
-        dmr_siteview) echo --site --hub --console --name --once --every --version --help ;;
-        dmr_timeline) echo --site --script --printed --program --out --records --start --from --to --page --calls --version --help ;;
-        dmr_callbook) echo --records --format --radio --group --carrier --cause --from --to --last --seconds --version --help ;;
+        dmr_siteview) echo --site --hub --console --name --names --once --every --version --help ;;
+        dmr_timeline) echo --site --script --printed --program --out --records --start --from --to --page --calls --names --version --help ;;
+        dmr_callbook) echo --records --format --radio --group --carrier --cause --from --to --last --names --seconds --version --help ;;
         dmr_capture) echo --site --program --out --running --shift --seconds --pcap --unfinished --version --help ;;
         dmr_carriers) echo --site --program --pid --port --carriers --link-version --radios --seconds --polls --fast --seed --faults --troubles --version --help ;;
         dmr_conform) echo --site --program --link-version --row --wait --json --version --help ;;
-        dmr_check) echo --explain --strict --json --link-version --controller --no-controller --version --help ;;
-        dmr_hub) echo --config --records --check --version --help ;;
+        dmr_check) echo --names --explain --strict --json --link-version --controller --no-controller --version --help ;;
+        dmr_hub) echo --config --records --names --check --version --help ;;
         dmr_console) echo --socket --tcp --seconds --version --help ;;
     esac
 }
@@ -21,7 +21,7 @@ _dmr_options() {
 _dmr_words() {
     case $1 in
         dmr_decode) [ "$2" -eq 1 ] && echo carrier site word pdu replay script journal write ;;
-        dmr_console) echo status radios calls lines slots drop end move stay help history who ;;
+        dmr_console) echo status radios calls lines slots drop end move stay help history names who ;;
     esac
 }
 
@@ -42,6 +42,7 @@ _dmr() {
         --site) _dmr_files toml "$word" ;;
         --config) _dmr_files toml "$word" ;;
         --records) _dmr_files db "$word" ;;
+        --names) _dmr_files csv "$word" ;;
         --script | --printed | --unfinished) _dmr_files txt "$word" ;;
         --out | --pcap | --socket | --hub) _dmr_files "" "$word" ;;
         --program | --controller) mapfile -t COMPREPLY < <(compgen -c -- "$word") ;;

@@ -7,7 +7,7 @@ comparison of the two means something. One module per subject, lowest first:
     printable   text that came from outside, as a terminal or a spreadsheet may show it
     version     the version of this program
     faults      the fault that a tool reports in a line, and files that are read with a limit
-    names       the names of radios, talkgroups and carriers, and how one is shown beside its number
+    names       the names of radios, talkgroups and carriers, and how one is shown next to its number
     code        the block code of a burst, and the check of ten octets
     pdus        the PDUs: one table of layouts, read in both directions
     frames      the frames of the link in both versions: one cutter for both directions

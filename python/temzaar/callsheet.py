@@ -42,8 +42,8 @@ def text_cells(record: CallRecord, clock: Clock, names: Names) -> list[str]:
         return "-" if tick is None else f"{tick} {clock.time_of_day(tick)}".rstrip()
 
     waited = "-" if record.waited is None else f"{record.waited} ({clock.seconds(record.waited):.1f} s)"
-    source = "-" if record.source is None else names.beside(Kind.RADIO, record.source, NAME_COLUMNS)
-    target = names.beside(called_kind(record.kind == "talkgroup"), record.target, NAME_COLUMNS)
+    source = "-" if record.source is None else names.label(Kind.RADIO, record.source, NAME_COLUMNS)
+    target = names.label(called_kind(record.kind == "talkgroup"), record.target, NAME_COLUMNS)
     slot = named(f"{record.carrier}/{record.slot}", names.name_of(Kind.CARRIER, record.carrier), NAME_COLUMNS)
     return [at(record.begun), at(record.ended), slot, record.kind, source, target, waited, record.cause.value]
 

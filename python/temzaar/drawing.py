@@ -100,10 +100,10 @@ class Axis:
 
 
 def event_in_words(event: Event, names: Names = NO_NAMES) -> str:
-    """An event in words, with names beside numbers."""
+    """An event in words, with names next to numbers."""
     def radio(number: int) -> str:
         """A radio."""
-        return names.beside(Kind.RADIO, number)
+        return names.label(Kind.RADIO, number)
 
     if not event.octets:
         words = {"heard": "a burst was heard (flipped bits, or noise)", "said": f"operator: {names.in_text(event.text.strip())}", "radio": event.text}
@@ -114,11 +114,11 @@ def event_in_words(event: Event, names: Names = NO_NAMES) -> str:
     if is_grant(pdu):
         return f"{'late ' if is_late(pdu) else ''}{pdu.name} of channel {pdu['lpcn']} slot {pdu['slot']} to {names.in_text(str(granted_parties(pdu)))}"
     if pdu.name == "P_CLEAR":
-        return f"P_CLEAR, called {names.beside(called_kind(bool(pdu['group'])), pdu['target'])}"
+        return f"P_CLEAR, called {names.label(called_kind(bool(pdu['group'])), pdu['target'])}"
     if pdu.name == "C_AHOY":
         return f"C_AHOY to {radio(pdu['called'])} from {radio(pdu['calling'])}"
     if pdu.name == "C_RAND":
-        return f"C_RAND of {radio(pdu['source'])} to {names.beside(called_kind(pdu['kind'] == pdus.TALKGROUP_VOICE), pdu['target'])}, kind {pdu['kind']}"
+        return f"C_RAND of {radio(pdu['source'])} to {names.label(called_kind(pdu['kind'] == pdus.TALKGROUP_VOICE), pdu['target'])}, kind {pdu['kind']}"
     if pdu.name == "C_ACKU":
         return f"C_ACKU of {radio(pdu['additional'])} to {radio(pdu['target'])}, reason {pdu['reason']:02X}"
     return event.octets.hex().upper() if pdu.name == pdus.OTHER else pdu.name
@@ -144,7 +144,7 @@ class DrawnCalls(Protocol):
 class Session:
     """What is drawn: inputs and events over a site, its calls, its clock, and how many ticks it has. Without `calls` they are those that the events, of a
     replay, show. `has_ticks` is false if the ticks are not the site's, but milliseconds of records; then `gaps` are the times without records. `names` are
-    those that stand beside numbers."""
+    those that are next to numbers."""
 
     def __init__(self, plan: dict[str, Any], inputs: list[Input], events: list[Event], clock: Clock, calls: DrawnCalls | None = None, has_ticks: bool = True,
                  gaps: Sequence[Gap] = (), names: Names = NO_NAMES) -> None:
@@ -255,7 +255,7 @@ class Drawing:
                 if event.what == "up":
                     self.draw_outage(carrier, since, across)
                 if event.what != "stopped" and self.window.has(event.tick):
-                    self.put("line", title=f"carrier {self.names.beside(Kind.CARRIER, carrier)} {event.what} {event.text} at {self.at_tick(event.tick)}", x1=across, y1=self.above((carrier, 0)), x2=across,
+                    self.put("line", title=f"carrier {self.names.label(Kind.CARRIER, carrier)} {event.what} {event.text} at {self.at_tick(event.tick)}", x1=across, y1=self.above((carrier, 0)), x2=across,
                              y2=self.above((carrier, 1)) + ROW, class_=event.what)
                 since = across
             if not changes or changes[-1].what != "up":
@@ -264,7 +264,7 @@ class Drawing:
     def draw_outage(self, carrier: int, begins: float, ends: float) -> None:
         """Grey on both slots of a carrier."""
         if ends > begins:
-            self.put("rect", title=f"carrier {self.names.beside(Kind.CARRIER, carrier)} is not up", x=begins, y=self.above((carrier, 0)) + 1, width=ends - begins, height=2 * ROW - 2, class_="down")
+            self.put("rect", title=f"carrier {self.names.label(Kind.CARRIER, carrier)} is not up", x=begins, y=self.above((carrier, 0)) + 1, width=ends - begins, height=2 * ROW - 2, class_="down")
 
     def draw_gaps(self) -> None:
         """Hatching over all rows for the times that are not recorded: nobody knows what was so."""

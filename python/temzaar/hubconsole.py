@@ -93,7 +93,7 @@ class HubNames:
         self.console, self.known, self.until, self.fault = console, dict[Bearer, str | None](), 0.0, ""
 
     def find(self, texts: Iterable[str]) -> Names:
-        """The names that stand beside the numbers of some texts. ConsoleFault: the hub does not answer."""
+        """The names that are next to the numbers of some texts. ConsoleFault: the hub does not answer."""
         now, wanted = time.monotonic(), set(bearers_in(texts))
         if now >= self.until:
             self.known, self.until = {}, now + NAME_SECONDS

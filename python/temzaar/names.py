@@ -1,4 +1,4 @@
-"""The names of radios, talkgroups and carriers: a CSV file that people write, and how a name is shown beside its number.
+"""The names of radios, talkgroups and carriers: a CSV file that people write, and how a name is shown next to its number.
 
 Names are for people. Numbers are what is typed, and what machines get. A name is text from outside: it has no character that does something to a terminal, and
 none of the brackets that it is shown in.
@@ -15,13 +15,13 @@ from temzaar.printable import cut_text, printable
 
 # What a file of names may have at most: octets, lines, and characters of a name.
 MOST_OCTETS, MOST_LINES, MOST_CHARACTERS = 1 << 24, 100_000, 40
-# How wide a name is at most, of wide characters alone; and in a column of a table, where a wider one is cut.
+# How wide a name is at most, of wide characters alone; and in a column of a table, which cuts a wider one.
 MOST_COLUMNS, NAME_COLUMNS = 2 * MOST_CHARACTERS, 16
 # How many bad lines are described; of the others, their number. How many a tool prints.
 MOST_BAD, MOST_PRINTED = 1000, 5
 BYTE_ORDER_MARK = b"\xef\xbb\xbf"
 COLUMNS = ["kind", "number", "name"]
-# What surrounds a name beside its number: no name has one of them, so no name looks like two.
+# What surrounds a name next to its number: no name has one of them, so no name looks like two.
 BRACKETS = frozenset("[]")
 
 
@@ -62,7 +62,7 @@ class BadLine:
 
 
 def named(number: int | str, name: str | None, columns: int = MOST_COLUMNS) -> str:
-    """A number, or what stands for it, with its name beside it if it has one: `1001 [Bus 12]`. A name that is wider than `columns` is cut."""
+    """A number, or a text in its place, with its name next to it if it has one: `1001 [Bus 12]`. A name that is wider than `columns` is cut."""
     return f"{number} [{cut_text(name, columns)}]" if name else str(number)
 
 
@@ -78,15 +78,15 @@ class Names:
         """The name of a number; None if it has none."""
         return self.by_kind.get(kind, {}).get(number)
 
-    def beside(self, kind: Kind, number: int, columns: int = MOST_COLUMNS) -> str:
-        """A number with its name beside it, if it has one."""
+    def label(self, kind: Kind, number: int, columns: int = MOST_COLUMNS) -> str:
+        """A number with its name next to it, if it has one."""
         return named(number, self.name_of(kind, number), columns)
 
     def in_text(self, text: str, columns: int = MOST_COLUMNS) -> str:
-        """A text in the form of the console's replies, such as `group 91 from 1001`, with names beside its numbers."""
+        """A text in the form of the console's replies, such as `group 91 from 1001`, with names next to its numbers."""
         if not self.by_kind:
             return text
-        return IN_TEXT.sub(lambda found: f"{found[1]} {self.beside(WORDS[found[1]], int(found[2]), columns)}", text)
+        return IN_TEXT.sub(lambda found: f"{found[1]} {self.label(WORDS[found[1]], int(found[2]), columns)}", text)
 
     def of_call(self, called: Kind, source: int | None, target: int, carrier: int) -> dict[str, str | None]:
         """The names of a call's parties and carrier, by CALL_FIELDS."""
@@ -234,7 +234,7 @@ class FileNames:
         self.path, self.state, self.file, self.fault = path, file_state(path), read_names(path), ""
 
     def find(self, _: Iterable[str]) -> Names:
-        """The names that stand beside the numbers of some texts: all of them."""
+        """The names that are next to the numbers of some texts: all of them."""
         state = file_state(self.path)
         if state != self.state:
             self.state, self.fault = state, ""

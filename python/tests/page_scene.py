@@ -92,7 +92,7 @@ class Scene:
         self.player.start()
 
     def write_names(self, text: str) -> None:
-        """Writes the file of names anew, if there is one."""
+        """Writes the file of names again, if there is one."""
         if self.names:
             with open(f"{self.names}.new", "w", encoding="utf-8") as it:
                 it.write(text)

@@ -104,7 +104,7 @@ class Printed(RecordsCase):
         self.assertEqual(rows[1]["number"], 5)
 
     def test_names(self) -> None:
-        """With names: beside the numbers of the table, cut to their column; in CSV and JSON after the other columns, which stay as they are."""
+        """With names: next to the numbers of the table, cut to their column; in CSV and JSON after the other columns, which stay as they are."""
         names = self.folder / "names.csv"
         names.write_text("kind,number,name\nradio,1001,Bus 12\nradio,1002,\"=1+1,a\"\nradio,1003\ntalkgroup,91,Linienbus Nordring Süd\ntalkgroup,1001,nobody\ncarrier,1,東京\n", encoding="utf-8")
         words = ["--records", str(self.path), "--names", str(names)]

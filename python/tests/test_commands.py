@@ -92,6 +92,10 @@ CASES = (
     Case("capture", "--site {site} --program {program} --out {folder}", 1, "{folder}: Is a directory"),
     Case("capture", "--site {site} --program {program} --out {none}/a", 1, "{none}/a: No such file or directory"),
     Case("capture", "--site {site} --program {program} --out /dev/full", 1, "/dev/full: not a regular file"),
+    # no names
+    *(Case(tool, f"{words} --names {{{file}}}", 1, f"{{{file}}}: {said}") for tool, words in (("timeline", DRAW), ("callbook", "--records {none}"))
+      for file, said in (("none", "No such file or directory"), ("folder", "Is a directory"), ("octets", "line 1: not kind,number,name, three fields with commas between them; no line of the file is right"))),
+    *(Case("check", f"--names {{{file}}} {site}", 2, f"{{{file}}}: {said}") for site in ("", "{site}") for file, said in (("none", "No such file or directory"), ("folder", "Is a directory"))),
     # wrong types of words
     *(Case("siteview", words, 2, said) for words, said in (
         ("--console 7100", "is not ADDRESS:PORT"), ("--console :7100", "is not ADDRESS:PORT"), ("--console a:b", "is not ADDRESS:PORT"), ("--console a:70000", "is not ADDRESS:PORT"),

@@ -43,6 +43,7 @@ class Completion(unittest.TestCase):
             (["dmr_decode", "w"], ["word", "write"]),
             (["dmr_decode", "word", "w"], []),
             (["dmr_console", "s"], ["status", "slots", "stay"]),
+            (["dmr_console", "n"], ["names"]),
             (["dmr_carriers", "--link-version", ""], ["1", "2"]),
             (["dmr_conform", "--row", "d"], ["done", "died"]),
             (["dmr_timeline", "--calls", "c"], ["csv"]),
@@ -60,6 +61,7 @@ class Completion(unittest.TestCase):
         for words in (["dmr_trunk", "--site", "sites/two"], ["dmr_check", "sites/two"]):
             with self.subTest(words):
                 self.assertEqual(completed(words), ["sites/two_carriers.toml"])
+        self.assertEqual(completed(["dmr_callbook", "--names", "sites/"]), ["sites/names.csv"])
 
 
 if __name__ == "__main__":

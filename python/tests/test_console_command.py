@@ -90,7 +90,7 @@ class Command(ToolCase):
         return hub
 
     async def test_names_on_a_terminal(self) -> None:
-        """They stand beside numbers on a terminal. In a pipe a program gets the octets of the controller and of the hub."""
+        """They are next to numbers on a terminal. In a pipe a program gets the octets of the controller and of the hub."""
         await self.start_with_names()
         shown = await asyncio.to_thread(self.type_keys, ["calls 0\n", "slots\n", "radios 1001\n", "drop 1003\n", "history\n", "names radio 1003\n", "names r\t7\n", "quit\n"])
         for text in ("call 0 [Mast North] 1 group 91 [Drivers] from 1001 [Süd 12]\r\n", "slot 0 [Mast North] 1 call\r\n", "radio 1001 [Süd 12]\r\nradio 1002\r\nradio 1003 [Bus 13]\r\n",

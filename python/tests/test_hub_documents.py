@@ -7,7 +7,7 @@ import unittest
 
 from temzaar.console import Parties
 from temzaar.hub import audit, lineport, notes, places, recordreader, roles, session, turn
-from temzaar.hub.boardviews import CALL_KEYS, call_view
+from temzaar.hub.boardviews import CALL_KEYS, NAME_KEYS, RADIO_KEYS, call_view
 from temzaar.hub.config import Config, RoleKeys, read_config
 from temzaar.hub.counts import Histogram
 from temzaar.hub.lines import OWN
@@ -17,6 +17,7 @@ from temzaar.hub.recordsamples import KINDS, RecordSamples
 from temzaar.hub.samples import FIGURES, Samples
 from temzaar.hub.seencalls import MOST_ENDED, CallLog, SeenCall
 from temzaar.hub.session import HELP
+from temzaar.names import MOST_PRINTED, NO_NAMES
 from tests.hub_support import HubCase, wait_until
 from tests.made_records import make_records
 from tests.support import TOP, read_document, table_rows
@@ -62,10 +63,11 @@ class Documented(unittest.TestCase):
 
     def test_the_page(self) -> None:
         """Queries, keys and figures of the page's paths, and how much memory they take."""
-        self.assertEqual([(row[0], row[1]) for row in table_rows(HUB, "| key of the query")], [(name, kind.says) for name, kind in CALL_KEYS.items()])
+        for title, kinds in (("", CALL_KEYS), (" of radios", RADIO_KEYS), (" of names", NAME_KEYS)):
+            self.assertEqual([(row[0], row[1]) for row in table_rows(HUB, f"| key of the query{title} |")], [(name, kind.says) for name, kind in kinds.items()])
         self.assertEqual([row[0] for row in table_rows(HUB, "| figure | what it is")], [*FIGURES])
         self.assertEqual([name for row in table_rows(HUB, "| count | what it is") for name in row[0].split(", ")], [*KINDS])
-        call = call_view(SeenCall(1, (0, 1), Parties("group", 91, 1001), Moment(0, 0), False))
+        call = call_view(SeenCall(1, (0, 1), Parties("group", 91, 1001), Moment(0, 0), False), NO_NAMES)
         named = " ".join(cell for row in table_rows(HUB[HUB.index("### Seen calls"):], "| key | value") for cell in row)
         self.assertEqual([name for name in call if not re.search(rf"\b{name}\b", named)], [])
         samples = sum(span.octets() for span in Samples().spans.values())
@@ -86,6 +88,11 @@ class Documented(unittest.TestCase):
                 ("a user's name, the audit log, the records", f"{roles.NAME_SECONDS:g} s, {audit.WRITE_SECONDS:g} s and {recordreader.LOOK_SECONDS:g} s")):
             self.assertIn(said, rows[what])
         self.assertEqual((session.REFUSALS_PER_SECOND, session.MOST_REFUSALS, session.REFUSALS_SECONDS, notes.NOTES_SECONDS, turn.SHARE), (2, 10, 3600, 60, 0.25))
+
+    def test_names(self) -> None:
+        """What the hub notes of bad lines."""
+        self.assertEqual(MOST_PRINTED, 5)
+        self.assertIn("The hub notes five of them", HUB)
 
     def test_own_commands(self) -> None:
         self.assertEqual({row[0].split()[0].rstrip(",") for row in table_rows(HUB, "| line | reply")}, set(OWN))

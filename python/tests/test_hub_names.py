@@ -1,4 +1,4 @@
-"""The hub's names: read again when their file changes, shown beside numbers, and found by a text. Of a file that cannot be used nothing is taken."""
+"""The hub's names: read again when their file changes, shown next to numbers, and found by a text. Of a file that cannot be used nothing is taken."""
 import dataclasses
 import json
 import os
@@ -20,7 +20,7 @@ from tests.made_records import make_records
 from tests.support import call_tool
 from tests.test_hub_board import BoardCase
 
-# The fake console has carriers 0 and 1, calls of 1001 to group 91 and of 1003 to 1002, a request of 1004 to group 94, and the radios 1001 to 1040.
+# The fake console has carriers 0 and 1, and the radios 1001 to 1040. 1001 has a call to group 91, 1003 one to 1002, and 1004 waits for group 94.
 NAMES = "kind,number,name\nradio,1001,Bus 12\nradio,1003,Süd <b>\nradio,1500,Bus 99\nradio,91,nobody\ntalkgroup,91,Drivers\ntalkgroup,1002,nobody\ncarrier,1,Mast North\n"
 
 
@@ -42,7 +42,7 @@ class NamesCase(BoardCase):
         return hub
 
     def write(self, text: str) -> None:
-        """Writes the file anew, as an editor does."""
+        """Writes the file again, as an editor does."""
         new = self.file.with_suffix(".new")
         new.write_text(text, encoding="utf-8")
         os.replace(new, self.file)

@@ -1,4 +1,4 @@
-"""The file of names: what is read of it, what is refused with its line, and how a name is shown beside its number."""
+"""The file of names: what is read of it, what is refused with its line, and how a name is shown next to its number."""
 import csv
 import pathlib
 import tempfile
@@ -116,10 +116,10 @@ class Bad(unittest.TestCase):
 
 
 class Shown(unittest.TestCase):
-    """A name beside its number."""
+    """A name next to its number."""
 
-    def test_beside(self) -> None:
-        self.assertEqual((NAMES.beside(Kind.RADIO, 1001), NAMES.beside(Kind.RADIO, 1002), NO_NAMES.beside(Kind.RADIO, 1001)), ("1001 [Bus 12]", "1002", "1001"))
+    def test_label(self) -> None:
+        self.assertEqual((NAMES.label(Kind.RADIO, 1001), NAMES.label(Kind.RADIO, 1002), NO_NAMES.label(Kind.RADIO, 1001)), ("1001 [Bus 12]", "1002", "1001"))
         self.assertEqual((named(91, "Linienbus Nordring", 10), named(91, "Linienbus Nordring")), ("91 [Linienbu..]", "91 [Linienbus Nordring]"))
 
     def test_a_name_of_digits_is_not_read_as_a_number(self) -> None:

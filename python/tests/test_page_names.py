@@ -1,5 +1,5 @@
-"""Names on the operators' page, in a headless Chromium over a site that the proved program serves: beside numbers, found by a text, and changed while the page is
-open. There are a hundred thousand of them, and the page asks for those that it shows."""
+"""Names on the operators' page, in a headless Chromium over a site that the proved program serves. They are next to numbers, are found by a text, and change while the
+page is open. There are a hundred thousand of them, and the page asks for those that it shows."""
 import json
 import re
 import unittest

@@ -73,7 +73,7 @@ class RecordsTimeline(unittest.TestCase):
                 self.assertEqual(titles_of(self.draw(*words)), TITLES)
 
     def test_names(self) -> None:
-        """Names stand beside the numbers of carriers, calls, radios and commands, as text, whatever is in them. A refused request may be to a radio or to a talkgroup."""
+        """Names are next to the numbers of carriers, calls, radios and commands, as text, whatever is in them. A refused request may be to a radio or to a talkgroup."""
         names = self.folder / "names.csv"
         names.write_text("radio,1001,<b>&\nradio,1002,Bus 13\nradio,999,Depot\ntalkgroup,91,Drivers\ntalkgroup,99,Nobody\nradio,99,Somebody\ntalkgroup,1002,Others\n"
                          "carrier,1,Mast South of the long street\n", encoding="utf-8")

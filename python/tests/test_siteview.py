@@ -57,7 +57,7 @@ class Shown(unittest.TestCase):
         self.assertEqual(text.partition("\n")[2], SHOWN)
 
     def test_names(self) -> None:
-        """Beside numbers, cut to twelve columns; the columns of the table are as wide as they need. Without names nothing changes."""
+        """Next to numbers, cut to twelve columns; the columns of the table are as wide as they need. Without names nothing changes."""
         names = parse_names("radio,1001,Bus 12\nradio,1002,東京駅前広場行き\nradio,1003,Linienbus Nordring\ntalkgroup,91,Drivers\ncarrier,0,Mast North\ncarrier,1,1\n".encode(), "").names
         text = plain_text(picture_rows(take_picture(Written()), "here", Ages(), 0, names))
         self.assertEqual(text.partition("\n")[2], NAMED)

@@ -51,7 +51,7 @@ class Lists(unittest.TestCase):
         self.assertEqual((rows[3]["waited_ticks"], rows[3]["waited_seconds"], rows[3]["ended"]), ("101", "6.06", ""))
 
     def test_names(self) -> None:
-        """In the table beside the numbers; in CSV and JSON after the other columns, which stay as they are; in the picture in what marks say."""
+        """In the table next to the numbers; in CSV and JSON after the other columns, which stay as they are; in the picture in what marks say."""
         with tempfile.TemporaryDirectory() as folder:
             path = os.path.join(folder, "names.csv")
             pathlib.Path(path).write_text("radio,1001,-Bus 12\ntalkgroup,91,Drivers\ncarrier,0,Mast North\n", encoding="utf-8")

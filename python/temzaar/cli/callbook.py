@@ -12,7 +12,7 @@ ago; s, m and d are seconds, minutes and days. A call is printed if it was activ
 Below the calls are the times without records, and up to when the records go: calls of the term that runs are not in the file yet. As CSV and JSON the calls go
 to standard output alone, and these lines to standard error.
 
-With --names a name stands beside its number: in the table 1001 [Bus 12], in CSV and JSON as source_name, target_name and carrier_name after the other columns.
+With --names a name is next to its number: in the table 1001 [Bus 12], in CSV and JSON as source_name, target_name and carrier_name after the other columns.
 
 The tool copies the file while it has SQLite's lock of readers, and writes nothing next to it. It needs the right to read the file, as root or the
 controller's user has it.

@@ -143,7 +143,7 @@ def finish_after_fault(name: str, text: str, status: int) -> int:
 
 def add_names_option(parser: argparse.ArgumentParser) -> None:
     """Adds the option that names the file of names."""
-    parser.add_argument("--names", metavar="CSV", help="the file of names, to show beside numbers")
+    parser.add_argument("--names", metavar="CSV", help="the file of names, to show next to numbers")
 
 
 def names_of_words(name: str, options: argparse.Namespace) -> Names | None:

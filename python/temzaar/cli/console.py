@@ -4,7 +4,7 @@
     console status               this one line
     console <lines.txt           these lines, one after another
 
-`help` lists the commands. On a terminal the names of radios, talkgroups and carriers stand beside their numbers, if the hub has them. In a pipe each reply is
+`help` lists the commands. On a terminal the names of radios, talkgroups and carriers are next to their numbers, if the hub has them. In a pipe each reply is
 that of the hub, octet by octet. Numbers alone are typed. The hub has to run, and its config file has to have a role for the user. DMR_HUB_SOCKET in the environment names another
 socket than /run/dmr_hub/console.sock.
 
@@ -71,7 +71,7 @@ class Operator:
             self.status = REFUSED
 
     def with_names(self, reply: list[str]) -> list[str]:
-        """The lines of a reply, with the names that the hub has beside numbers."""
+        """The lines of a reply, with the names that the hub has next to numbers."""
         try:
             names = ask_names(self.console, bearers_in(reply))
         except ConsoleFault:

@@ -9,7 +9,7 @@ Live, the keys type a line to the operator's console; Enter sends it, and the an
 one operator is served at a time: while siteview is connected, another console waits, so type here. An age is how long siteview has seen a call or a
 request; `>` says that it was there before. The controller reports no ages, so --once shows none.
 
-The names of radios, talkgroups and carriers stand beside their numbers: those of the hub, or of the file that --names names, which is read again when it
+The names of radios, talkgroups and carriers are next to their numbers: those of the hub, or of the file that --names names, which is read again when it
 changes. Numbers alone are typed.
 
 Status: 0 it was left, or the picture printed; 1 the site file, the console or the hub, named on standard error; 2 the words.
@@ -49,11 +49,11 @@ Row = list[Part]
 
 
 class NameSource(Protocol):
-    """Where names come from; `fault` is why they may be old ones."""
+    """A source of names; `fault` is why they may be old ones."""
     fault: str
 
     def find(self, texts: Iterable[str]) -> Names:
-        """The names that stand beside the numbers of some texts."""
+        """The names that are next to the numbers of some texts."""
         ...
 
 
@@ -76,7 +76,7 @@ def slot_cell(picture: Picture, slot: SlotKey, parties: str, age: str) -> Part:
 
 
 def picture_rows(picture: Picture, name: str, ages: Ages, now: float, names: Names = NO_NAMES) -> Iterator[Row]:
-    """The picture as rows, with names beside numbers."""
+    """The picture as rows, with names next to numbers."""
     shown = {it: names.in_text(it, SHORT_COLUMNS) for it in (*picture.calls.values(), *picture.lines)}
     room = max([PARTIES, *map(columns_of, shown.values())])
     cell = CELL - PARTIES + room
@@ -242,7 +242,7 @@ def title_of(options: argparse.Namespace, console: Console, place: str) -> str:
 
 
 def name_source(options: argparse.Namespace, console: Console) -> NameSource | None:
-    """Where names come from: the file of the words, else the hub. NamesFault: nothing of the file can be used."""
+    """The source of names: the file of the words, else the hub. NamesFault: nothing of the file can be used."""
     if options.names is None:
         return HubNames(console) if isinstance(console, HubConsole) else None
     source = FileNames(options.names)

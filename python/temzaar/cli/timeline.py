@@ -28,7 +28,7 @@ records is hatched. The site file is optional: it has the carriers that no recor
 which slot is the control slot. --from and --to are times then: 2026-11-27, 2026-11-27 08:00, 08:00 (today), or -2h (also s, m and d). Without them it is
 all of the file. `callbook` lists the calls of records.
 
-With --names the names of radios, talkgroups and carriers stand beside their numbers; in CSV and JSON they follow the other columns.
+With --names the names of radios, talkgroups and carriers are next to their numbers; in CSV and JSON they follow the other columns.
 
 Status: 0 drawn; 1 a file, the program, a script whose replay sent nothing, or an output of another script, named on standard error; 2 the words.
 """

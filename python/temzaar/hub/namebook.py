@@ -16,7 +16,7 @@ LOOK_SECONDS = 60.0
 SEARCHED = (Kind.CARRIER, Kind.TALKGROUP, Kind.RADIO)
 
 
-@dataclass(frozen=True)
+@dataclass(frozen=True, slots=True)
 class Row:
     """A name, and what has it."""
     kind: Kind

@@ -222,10 +222,10 @@ class Views:
             return
         for number in carriers if isinstance(rule.carriers, str) else rule.carriers:
             if number not in carriers:
-                yield f"carrier {self.names.beside(Kind.CARRIER, number)} is not in the site"
+                yield f"carrier {self.names.label(Kind.CARRIER, number)} is not in the site"
             elif not carriers[number].is_up and now.steady - carriers[number].since.steady > rule.carrier_seconds:
                 control = "no control channel: " if self.model.picture and number == self.model.picture.control else ""
-                yield f"{control}carrier {self.names.beside(Kind.CARRIER, number)} is down since {utc_text(carriers[number].since.wall)}"
+                yield f"{control}carrier {self.names.label(Kind.CARRIER, number)} is down since {utc_text(carriers[number].since.wall)}"
 
     def _unsent_faults(self, now: Moment) -> Iterator[str]:
         """The carriers of the rule that have a burst to send, and do not send it."""
@@ -234,7 +234,7 @@ class Views:
             return
         for (carrier, slot), since in self.model.unsent(now, max(UNSENT_SECONDS, rule.carrier_seconds)).items():
             if isinstance(rule.carriers, str) or {carrier, picture.control} & set(rule.carriers):
-                yield f"slot {slot} of carrier {self.names.beside(Kind.CARRIER, carrier)} waits for a poll since {utc_text(since.wall)}"
+                yield f"slot {slot} of carrier {self.names.label(Kind.CARRIER, carrier)} waits for a poll since {utc_text(since.wall)}"
 
     def _record_faults(self) -> Iterator[str]:
         """What is wrong with the records, if the rule asks for them."""

@@ -33,7 +33,7 @@ function fillElement(element, attributes, children) {
   return element;
 }
 
-/** A text with a name beside it, if there is one: `radio 1001 [Bus 12]`. No name has a bracket. */
+/** A text with a name next to it, if there is one: `radio 1001 [Bus 12]`. No name has a bracket. */
 export function namedText(text, name) {
   return name ? `${text} [${name}]` : String(text);
 }

@@ -191,9 +191,11 @@ class HubProfile(Services):
         text = re.sub(
             r'"(/etc/|/run/|/var/)', lambda found: f'"{self.folder}{found[1]}', text
         ).replace('full_users = ["root"]', f"full_users = [{os.getuid()}]")
-        text = text.replace(
-            '\nfile = ""\n', f'\nfile = "{self.path("/run/dmr_records/site.db")}"\n'
-        ).replace("\nport = 0\n", f"\nport = {self.port}\n")
+        names = pathlib.Path(self.path("/etc/dmr_trunk/names.csv"))
+        names.write_bytes((TOP / "sites" / "names.csv").read_bytes())
+        for path in (self.path("/run/dmr_records/site.db"), names):
+            text = text.replace('\nfile = ""\n', f'\nfile = "{path}"\n', 1)
+        text = text.replace("\nport = 0\n", f"\nport = {self.port}\n")
         self.config = self.path("/etc/dmr_trunk/hub.toml")
         pathlib.Path(self.config).write_text(text, encoding="utf-8")
         self.notified = socket.socket(socket.AF_UNIX, socket.SOCK_DGRAM)
@@ -239,9 +241,14 @@ class HubProfile(Services):
         hub = self.start([PYTHON, self.installed(), "--config", self.config], variables)
         self.wait_for(self.path("/run/dmr_hub/console.sock"))
         until = time.monotonic() + SECONDS
-        while "dmr_hub_records_reads_total 0" in self.get("/metrics") and time.monotonic() < until:
+        found = "/v1/names.json?find=south"
+        while time.monotonic() < until and (
+            "dmr_hub_records_reads_total 0" in self.get("/metrics")
+            or "Mast South" not in self.get(found)
+        ):
             time.sleep(0.1)
         self.assertIn("dmr_hub_records_reads_total 1", self.get("/metrics"))
+        self.assertIn('"name": "Mast South"', self.get(found))
         self.assertIn("<title>", self.get("/"))
         self.assertEqual(self.drop(), b"ok\n")
         os.killpg(hub.pid, signal.SIGTERM)
@@ -252,6 +259,7 @@ class HubProfile(Services):
             Need("/run/systemd/notify", "w"),
             Need("/run/dmr_hub/console.sock", "w"),
             Need("/run/dmr_records/site.db", "k"),
+            Need("/etc/dmr_trunk/names.csv", "r"),
         ):
             self.assertTrue(
                 any(it.path == other.path and it.modes in other.modes for other in needs),

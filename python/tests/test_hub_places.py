@@ -313,7 +313,7 @@ class Http(WebCase):
         for path in ("/v1/calls.json?last=7", "/v1/radios.json"):
             first, second = await self.get(path), await self.get(path)
             self.assertEqual((first.status, first.body), (200, second.body))
-        self.assertEqual(made, [("last=7",), ()])
+        self.assertEqual(made, [("last=7",), ("",)])
         self.fake.radios.discard(1001)
         self.fake.replies["calls 0"] = ["call 0 1 group 92 from 1001", "end"]
         await wait_until(lambda: hub.model.calls.count == 3 and hub.model.radios and 1001 not in hub.model.radios.radios)

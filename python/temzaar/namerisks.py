@@ -39,7 +39,7 @@ def strange_names(found: NamesFile, figures: Figures) -> Iterator[NameRisk]:
     ranges = [among for _, among in figures.ranges()]
     groups = {group for _, group in figures.groups()}
     carriers = {table.get("number") for _, table in figures.rows()}
-    for (kind, number), line in found.lines.items():
+    for kind, number, line in ((kind, *it) for kind, lines in found.lines.items() for it in lines.items()):
         if kind is Kind.RADIO and not any(number in it for it in ranges):
             yield NameRisk("unknown-radio", line, f"radio {number} is in no range of `radios`: it cannot register")
         elif kind is Kind.TALKGROUP and number not in groups:

@@ -115,12 +115,17 @@ def bearers_in(texts: Iterable[str]) -> Iterator[Bearer]:
             yield WORDS[word], int(number)
 
 
+def frozen_names(by_kind: Mapping[Kind, Mapping[int, str]]) -> Names:
+    """Names that nobody changes from now on."""
+    return Names(MappingProxyType({kind: MappingProxyType(names) for kind, names in by_kind.items()}))
+
+
 def names_of(rows: Iterable[tuple[Bearer, str]]) -> Names:
-    """Names of rows. Of two for one number the first counts."""
+    """Names of rows."""
     by_kind: dict[Kind, dict[int, str]] = {kind: {} for kind in Kind}
     for (kind, number), name in rows:
-        by_kind[kind].setdefault(number, name)
-    return Names(MappingProxyType({kind: MappingProxyType(names) for kind, names in by_kind.items()}))
+        by_kind[kind][number] = name
+    return frozen_names(by_kind)
 
 
 @dataclass(frozen=True)
@@ -128,7 +133,7 @@ class NamesFile:
     """What a file of names has: the names, the line of each, the first of the bad lines, and how many bad lines there are."""
     path: str
     names: Names
-    lines: Mapping[Bearer, int]
+    lines: Mapping[Kind, Mapping[int, int]]
     bad: tuple[BadLine, ...]
     bad_count: int
 
@@ -158,8 +163,8 @@ def read_name(text: str) -> str:
     return name
 
 
-def read_line(line: str) -> tuple[Bearer, str]:
-    """What a line names, and the name. ValueError: it is not right; the text says why."""
+def read_line(line: str) -> tuple[Kind, int, str]:
+    """The kind, the number and the name of a line. ValueError: it is not right; the text says why."""
     if "\r" in line:
         raise ValueError("there is a CR within the line: lines end with LF, or CR LF")
     try:
@@ -175,7 +180,7 @@ def read_line(line: str) -> tuple[Bearer, str]:
     least, most = NUMBERS[KINDS[kind]]
     if not (number.isascii() and number.isdigit() and len(number) <= 8 and least <= int(number) <= most):
         raise ValueError(f"the number of a {kind} is from {least} to {most}")
-    return (KINDS[kind], int(number)), read_name(fields[2])
+    return KINDS[kind], int(number), read_name(fields[2])
 
 
 def numbered_lines(octets: bytes) -> Iterator[tuple[int, str]]:
@@ -189,25 +194,25 @@ def numbered_lines(octets: bytes) -> Iterator[tuple[int, str]]:
 
 def parse_names(octets: bytes, path: str) -> NamesFile:
     """The names of a file's octets, and its bad lines."""
-    found: dict[Bearer, str] = {}
-    lines: dict[Bearer, int] = {}
+    found: dict[Kind, dict[int, str]] = {kind: {} for kind in Kind}
+    lines: dict[Kind, dict[int, int]] = {kind: {} for kind in Kind}
     bad: list[BadLine] = []
     bad_count = 0
     for number, line in numbered_lines(octets):
         try:
             if number > MOST_LINES:
                 raise ValueError(f"more than {MOST_LINES} lines: this one and those after it are not used")
-            bearer, name = read_line(line)
-            if bearer in found:
-                raise ValueError(f"{bearer[0]} {bearer[1]} has a name already, by line {lines[bearer]}: the first one counts")
-            found[bearer], lines[bearer] = name, number
+            kind, bearer, name = read_line(line)
+            if bearer in found[kind]:
+                raise ValueError(f"{kind} {bearer} has a name already, by line {lines[kind][bearer]}: the first one counts")
+            found[kind][bearer], lines[kind][bearer] = name, number
         except ValueError as fault:
             bad_count += 1
             if len(bad) < MOST_BAD:
                 bad.append(BadLine(number, str(fault)))
             if number > MOST_LINES:
                 break
-    return NamesFile(path, names_of(found.items()), MappingProxyType(lines), tuple(bad), bad_count)
+    return NamesFile(path, frozen_names(found), lines, tuple(bad), bad_count)
 
 
 def scan_names(path: str) -> NamesFile:

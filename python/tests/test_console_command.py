@@ -92,9 +92,9 @@ class Command(ToolCase):
     async def test_names_on_a_terminal(self) -> None:
         """They are next to numbers on a terminal. In a pipe a program gets the octets of the controller and of the hub."""
         await self.start_with_names()
-        shown = await asyncio.to_thread(self.type_keys, ["calls 0\n", "slots\n", "radios 1001\n", "drop 1003\n", "history\n", "names radio 1003\n", "names r\t7\n", "quit\n"])
+        shown = await asyncio.to_thread(self.type_keys, ["calls 0\n", "slots\n", "radios 1001\n", "drop 1003\n", "history\n", "names radio 1001 1003\n", "names r\t7\n", "quit\n"])
         for text in ("call 0 [Mast North] 1 group 91 [Drivers] from 1001 [Süd 12]\r\n", "slot 0 [Mast North] 1 call\r\n", "radio 1001 [Süd 12]\r\nradio 1002\r\nradio 1003 [Bus 13]\r\n",
-                     "answered: drop 1003 [Bus 13]: ok\r\n", "name radio 1003 [Bus 13] Bus 13\r\n", "names radio 7\r\n"):
+                     "answered: drop 1003 [Bus 13]: ok\r\n", "name radio 1001 Süd 12\r\nname radio 1003 Bus 13\r\nend\r\n", "names radio 7\r\n"):
             self.assertIn(text, shown)
         done = await self.run_console(given="calls 0\nnames radio 1001\n")
         self.assertEqual(done.stdout, "call 0 1 group 91 from 1001\nend\nname radio 1001 S\\xc3\\xbcd 12\nend\n")

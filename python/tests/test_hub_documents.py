@@ -6,7 +6,7 @@ import tomllib
 import unittest
 
 from temzaar.console import Parties
-from temzaar.hub import audit, lineport, notes, places, recordreader, roles, session, turn
+from temzaar.hub import audit, lineport, namebook, notes, places, recordreader, roles, session, turn
 from temzaar.hub.boardviews import CALL_KEYS, NAME_KEYS, RADIO_KEYS, call_view
 from temzaar.hub.config import Config, RoleKeys, read_config
 from temzaar.hub.counts import Histogram
@@ -85,6 +85,7 @@ class Documented(unittest.TestCase):
                 ("connects to a port", f"{lineport.ACCEPTS_PER_SECOND:g} a second, and {lineport.ACCEPTS_AT_ONCE} at once after a rest; {lineport.BACKLOG:,} wait"),
                 ("lines of a user", f"{session.LINES_PER_SECOND:g} a second over all connections, and {session.LINES_AT_ONCE} at once after a rest. {session.PIECE:,} octets"),
                 ("notes", f"{notes.MOST_NOTES} about a user of each kind in a minute"),
+                ("the file of names", f"{namebook.LOOK_SECONDS:g} s for a look"),
                 ("a user's name, the audit log, the records", f"{roles.NAME_SECONDS:g} s, {audit.WRITE_SECONDS:g} s and {recordreader.LOOK_SECONDS:g} s")):
             self.assertIn(said, rows[what])
         self.assertEqual((session.REFUSALS_PER_SECOND, session.MOST_REFUSALS, session.REFUSALS_SECONDS, notes.NOTES_SECONDS, turn.SHARE), (2, 10, 3600, 60, 0.25))

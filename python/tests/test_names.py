@@ -29,7 +29,7 @@ class Right(unittest.TestCase):
         self.assertEqual((found.bad, found.bad_count, len(found.names)), ((), 0, 3))
         self.assertEqual([found.names.name_of(*it) for it in ((Kind.RADIO, 1001), (Kind.TALKGROUP, 91), (Kind.CARRIER, 0), (Kind.RADIO, 91), (Kind.CARRIER, 1))],
                          ["Bus 12", "Drivers", "Mast North", None, None])
-        self.assertEqual(found.lines[Kind.TALKGROUP, 91], 3)
+        self.assertEqual(found.lines[Kind.TALKGROUP][91], 3)
 
     def test_encodings_and_ends_of_lines(self) -> None:
         """UTF-8, with or without a byte order mark; LF or CR LF; without an end of the last line; with empty lines."""

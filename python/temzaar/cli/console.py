@@ -19,6 +19,7 @@ from collections.abc import Iterator, Sequence
 from temzaar.cli.command import address_of_words, amount_above, clean_up_on_signals, parse_words, run_command
 from temzaar.console import Console, ConsoleFault
 from temzaar.faults import ToolFault
+from temzaar.hub.lines import NAME, unescape_octets
 from temzaar.hubconsole import Completions, HubConsole, HubPort, ask_names, default_socket, has_ended
 from temzaar.names import bearers_in
 from temzaar.printable import printable
@@ -72,6 +73,8 @@ class Operator:
 
     def with_names(self, reply: list[str]) -> list[str]:
         """The lines of a reply, with the names that the hub has next to numbers."""
+        if reply[0].startswith(NAME):
+            return [printable(unescape_octets(it).decode("utf-8", "replace")) for it in reply]
         try:
             names = ask_names(self.console, bearers_in(reply))
         except ConsoleFault:

@@ -1,6 +1,7 @@
 """The names of the site's file of names, which is read again when it changes, and the search in them."""
 import asyncio
 import bisect
+from array import array
 from dataclasses import dataclass
 from itertools import accumulate
 
@@ -16,7 +17,7 @@ LOOK_SECONDS = 60.0
 SEARCHED = (Kind.CARRIER, Kind.TALKGROUP, Kind.RADIO)
 
 
-@dataclass(frozen=True, slots=True)
+@dataclass(frozen=True)
 class Row:
     """A name, and what has it."""
     kind: Kind
@@ -28,9 +29,16 @@ class NameIndex:
     """All names in one text, so that a search takes milliseconds."""
 
     def __init__(self, names: Names) -> None:
-        self.rows = [Row(kind, *it) for kind in SEARCHED for it in sorted(names.by_kind.get(kind, {}).items())]
-        folded = [f"{it.name.casefold()}\n" for it in self.rows]
-        self.text, self.starts = "".join(folded), [*accumulate(map(len, folded), initial=0)]
+        # the numbers of each kind in their order, and no object for each name: the collector of garbage would stop the loop for them
+        self.names, self.numbers = names, {kind: array("I", sorted(names.by_kind.get(kind, {}))) for kind in SEARCHED}
+        folded = [f"{names.by_kind[kind][number].casefold()}\n" for kind, numbers in self.numbers.items() for number in numbers]
+        self.text, self.starts = "".join(folded), array("I", accumulate(map(len, folded), initial=0))
+
+    def _row(self, place: int) -> Row:
+        """The name at a place of the text's lines."""
+        kind = next(it for it in SEARCHED if (place := place - len(self.numbers[it])) < 0)
+        number = self.numbers[kind][place]
+        return Row(kind, number, self.names.by_kind[kind][number])
 
     def find(self, text: str, most: int) -> tuple[list[Row], bool]:
         """The names that have a text of one line in them, in upper or lower case, `most` of them; and whether these are all."""
@@ -39,7 +47,7 @@ class NameIndex:
             place = bisect.bisect_right(self.starts, at) - 1
             if len(found) == most:
                 return found, False
-            found.append(self.rows[place])
+            found.append(self._row(place))
             at = self.starts[place + 1]
         return found, True
 

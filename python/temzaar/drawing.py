@@ -224,6 +224,10 @@ class Drawing:
             self.put("text", text=LANES[what], x=6, y=self.above_lane(what) + 16)
         self.draw_axis()
 
+    def carrier_text(self, carrier: int) -> str:
+        """A carrier with its name."""
+        return f"carrier {self.names.label(Kind.CARRIER, carrier)}"
+
     def carrier_names(self, slot: SlotKey) -> Iterator[str]:
         """The name of a carrier, as far as it fits below the name of its first row."""
         name = self.names.name_of(Kind.CARRIER, slot[0])
@@ -255,8 +259,8 @@ class Drawing:
                 if event.what == "up":
                     self.draw_outage(carrier, since, across)
                 if event.what != "stopped" and self.window.has(event.tick):
-                    self.put("line", title=f"carrier {self.names.label(Kind.CARRIER, carrier)} {event.what} {event.text} at {self.at_tick(event.tick)}", x1=across, y1=self.above((carrier, 0)), x2=across,
-                             y2=self.above((carrier, 1)) + ROW, class_=event.what)
+                    title = f"{self.carrier_text(carrier)} {event.what} {event.text} at {self.at_tick(event.tick)}"
+                    self.put("line", title=title, x1=across, y1=self.above((carrier, 0)), x2=across, y2=self.above((carrier, 1)) + ROW, class_=event.what)
                 since = across
             if not changes or changes[-1].what != "up":
                 self.draw_outage(carrier, since, self.axis.end)
@@ -264,7 +268,7 @@ class Drawing:
     def draw_outage(self, carrier: int, begins: float, ends: float) -> None:
         """Grey on both slots of a carrier."""
         if ends > begins:
-            self.put("rect", title=f"carrier {self.names.label(Kind.CARRIER, carrier)} is not up", x=begins, y=self.above((carrier, 0)) + 1, width=ends - begins, height=2 * ROW - 2, class_="down")
+            self.put("rect", title=f"{self.carrier_text(carrier)} is not up", x=begins, y=self.above((carrier, 0)) + 1, width=ends - begins, height=2 * ROW - 2, class_="down")
 
     def draw_gaps(self) -> None:
         """Hatching over all rows for the times that are not recorded: nobody knows what was so."""

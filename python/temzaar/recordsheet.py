@@ -60,9 +60,11 @@ def kind_of(call: RecordedCall) -> str:
 
 def table_cells(call: RecordedCall, names: Names) -> dict[str, str]:
     """The cells of a call in the table."""
-    return {"number": str(call.number), "began": short_text(call.began_ms), "seconds": f"{call.duration_ms / 1000:.1f}", "slot": named(f"{call.carrier}/{call.slot}", names.name_of(Kind.CARRIER, call.carrier), NAME_COLUMNS), "kind": kind_of(call),
-            "source": names.label(Kind.RADIO, call.source, NAME_COLUMNS), "target": names.label(called_kind(call.is_group), call.target, NAME_COLUMNS),
-            "cause": printable(call.cause)}
+    slot = named(f"{call.carrier}/{call.slot}", names.name_of(Kind.CARRIER, call.carrier), NAME_COLUMNS)
+    source = names.label(Kind.RADIO, call.source, NAME_COLUMNS)
+    target = names.label(called_kind(call.is_group), call.target, NAME_COLUMNS)
+    return {"number": str(call.number), "began": short_text(call.began_ms), "seconds": f"{call.duration_ms / 1000:.1f}", "slot": slot, "kind": kind_of(call),
+            "source": source, "target": target, "cause": printable(call.cause)}
 
 
 def text_table(calls: list[RecordedCall], names: Names) -> str:

@@ -1,7 +1,7 @@
 """Queries of HTTP paths: values of each kind, and refusals that name the key."""
 import unittest
 
-from temzaar.hub.boardviews import CALL_KEYS, HISTORY_KEYS
+from temzaar.hub.boardviews import CALL_KEYS, HISTORY_KEYS, NAME_KEYS, RADIO_KEYS
 from temzaar.hub.query import read_query
 from temzaar.hub.httpread import BadRequest
 
@@ -14,6 +14,9 @@ class Read(unittest.TestCase):
         self.assertEqual(read_query("radio=1001&group=91&last=7", CALL_KEYS), {"radio": 1001, "group": 91, "last": 7})
         self.assertEqual(read_query("&radio=0001&", CALL_KEYS), {"radio": 1})
         self.assertEqual(read_query("span=day", HISTORY_KEYS), {"span": "day"})
+        self.assertEqual(read_query("begins=10&most=200", RADIO_KEYS), {"begins": 10, "most": 200})
+        for text, found in (("007", "007"), ("Bus%2012", "Bus 12"), ("s%C3%BCd", "süd"), ("a+b", "a+b"), ("%zz", "%zz"), ("%26%3D", "&="), ("x" * 40, "x" * 40)):
+            self.assertEqual(read_query(f"find={text}&most=5", NAME_KEYS), {"find": found, "most": 5})
 
     def test_refusals(self) -> None:
         for query, said in (("colour=red", "colour: unknown key: there is radio, group, last"), ("radio=1&radio=2", "radio: given twice"), ("radio", "radio: not a whole number: 1 to 16777215"),
@@ -28,3 +31,7 @@ class Read(unittest.TestCase):
         with self.assertRaises(BadRequest) as refused:
             read_query("span=week", HISTORY_KEYS)
         self.assertEqual(str(refused.exception), 'span: not "hour" or "day"')
+        for text in ("", "%00", "%1B%5B2J", "%0A", "%C3", "%FF", "x" * 41, "%41" * 20_000, "%" * 64_000):
+            with self.subTest(text[:20]), self.assertRaises(BadRequest) as refused:
+                read_query(f"find={text}", NAME_KEYS)
+            self.assertEqual(refused.exception.status, 400)

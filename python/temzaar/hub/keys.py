@@ -92,7 +92,11 @@ class Sought:
 
     def read(self, value: Any) -> str:
         """The text."""
-        text = unquote(str(value), errors="strict")
+        try:
+            # a character has four octets at most, and each is written with three characters
+            text = unquote(value, errors="strict") if len(value) <= 12 * self.most else ""
+        except UnicodeDecodeError:
+            text = ""
         if not text.isprintable() or not 1 <= len(text) <= self.most:
             raise ValueError(f"not {self.says}")
         return text

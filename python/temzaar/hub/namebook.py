@@ -92,7 +92,7 @@ class NameBook:
             found = await self.worker.do(self._read)
         except Late as fault:
             self._fail(f"{self.keys.file}: {fault}")
-        except (ToolFault, OSError, MemoryError) as fault:
+        except (ToolFault, OSError, ValueError, MemoryError) as fault:
             # what kept the hub from reading it may end without a change of the file
             self.known = None
             self._fail(str(fault) or type(fault).__name__)

@@ -5,7 +5,7 @@ from collections.abc import Iterable, Iterator, Sized
 from dataclasses import dataclass, field
 from typing import Any
 
-from temzaar.console import Parties
+from temzaar.console import Parties, SlotKey
 from temzaar.hub.config import Config, NamesKeys
 from temzaar.hub.counts import Histogram, HubCounts, Series
 from temzaar.hub.lines import AWAY
@@ -78,10 +78,14 @@ class Views:
             "counts": picture.status.counts,
             "fill": {"kind": fill, "channel": int(channel) if channel.isdecimal() else None},
             "control": self._control_view(picture),
-            "unsent": [{"carrier": carrier, "slot": slot, "since": utc_text(since.wall, decimals=True), "name": self._carrier_name(carrier)} for (carrier, slot), since in self.model.unsent(now).items()],
+            "unsent": [self._unsent_view(slot, since) for slot, since in self.model.unsent(now).items()],
             "carriers": [self._carrier_view(picture, number, now) for number in picture.carriers],
             "queue": [{"place": place, **self._parties_view(("line", None, parties), now)} for place, parties in enumerate(picture.lines, 1)],
         }
+
+    def _unsent_view(self, slot: SlotKey, since: Moment) -> dict[str, Any]:
+        """A slot that waits for a poll."""
+        return {"carrier": slot[0], "slot": slot[1], "since": utc_text(since.wall, decimals=True), "name": self._carrier_name(slot[0])}
 
     def _control_view(self, picture: Picture) -> dict[str, Any] | None:
         """The carrier that has the control channel; None if the controller names none."""

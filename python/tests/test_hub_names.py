@@ -150,7 +150,8 @@ class Reload(NamesCase):
             hub = await self.serve_names()
             self.assertEqual(noted.call_args.args, (f"names: {self.file}: 7 names",))
             for change, fault in ((lambda: self.write("a;b\n"), "line 1: not kind,number,name, three fields with commas between them; no line of the file is right"),
-                                  (lambda: os.unlink(self.file), "No such file or directory"), (lambda: os.mkdir(self.file), "Is a directory")):
+                                  (lambda: os.unlink(self.file), "No such file or directory"), (lambda: os.mkdir(self.file), "Is a directory"),
+                                  (lambda: (os.rmdir(self.file), os.mkfifo(self.file)), "a pipe, and not a file")):
                 change()
                 await wait_until(lambda fault=fault: fault in hub.book.fault)
                 looks = 3
@@ -159,8 +160,7 @@ class Reload(NamesCase):
                 self.assertEqual(warned.call_args.args, (f"names: {self.file}: {fault}; the names that were read before stay",))
                 view = await self.view("/v1/site.json")
                 self.assertEqual((view["names"]["fault"], view["names"]["count"], view["state"]["carriers"][1]["name"]), (f"{self.file}: {fault}", 7, "Mast North"))
-            self.assertEqual((warned.call_count, hub.book.version), (3, 1))
-            os.rmdir(self.file)
+            self.assertEqual((warned.call_count, hub.book.version), (4, 1))
             self.write(NAMES)
             await wait_until(lambda: hub.book.version == 2)
             self.assertEqual((await self.view("/v1/site.json"))["names"]["fault"], None)

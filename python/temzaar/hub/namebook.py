@@ -1,6 +1,7 @@
 """The names of the site's file of names, which is read again when it changes, and the search in them."""
 import asyncio
 import bisect
+import pathlib
 from array import array
 from dataclasses import dataclass
 from itertools import accumulate
@@ -9,7 +10,7 @@ from temzaar.faults import FileState, ToolFault, file_state
 from temzaar.hub.config import NamesKeys
 from temzaar.hub.notes import note, warn
 from temzaar.hub.worker import Late, Worker
-from temzaar.names import NO_NAMES, Kind, Names, NamesFile, scan_names
+from temzaar.names import NO_NAMES, Kind, Names, NamesFault, NamesFile, scan_names
 
 # Seconds that a look may take: a file of 16 MiB on a slow disk is read within them.
 LOOK_SECONDS = 60.0
@@ -105,6 +106,9 @@ class NameBook:
         state = file_state(self.keys.file)
         if state is not None and state == self.known:
             return None
+        if pathlib.Path(self.keys.file).is_fifo():
+            # it would wait for somebody who writes
+            raise NamesFault(f"{self.keys.file}: a pipe, and not a file")
         file = scan_names(self.keys.file)
         return Read(state, file, NameIndex(file.names), file.fault())
 
@@ -116,7 +120,7 @@ class NameBook:
             return
         self.names, self.index, self.fault = found.file.names, found.index, ""
         self.version, self.bad_count = self.version + 1, found.file.bad_count
-        note(f"names: {self.keys.file}: {len(self.names)} names")
+        note(f"names: {self.keys.file}: {len(self.names)} {'name' if len(self.names) == 1 else 'names'}")
         for line in found.file.notes():
             warn(f"names: {line}")
 

@@ -19,6 +19,7 @@ comparison of the two means something. One module per subject, lowest first:
     sitefigures  what a site file amounts to: times in seconds, and counts
     siterisks   what is risky in a site file
     namerisks   what is risky in a file of names
+    erlang      how many carriers a site needs
     sitereport  what a check of a site file prints
     script      scripts and printed replays
     console     an operator's console
@@ -37,6 +38,7 @@ comparison of the two means something. One module per subject, lowest first:
     drawing     the picture of a session
     moments     dates and times that people write, and times before now
     records     the controller's file of records
+    archive     a file of records for each month
     recordgaps  the times of which a file of records has nothing
     recordsheet the calls of a file of records as a table, CSV and JSON
     recordsession a period of a file of records as a session that can be drawn
@@ -46,5 +48,6 @@ comparison of the two means something. One module per subject, lowest first:
     conformance the table of docs/LINK.md by which a base station's client is judged
     hub         a service that holds the console and serves many who ask
     hubconsole  a connection to the hub, and what its lines may be completed to
-    cli         the commands: siteview, timeline, callbook, capture, carriers, conform, check, hub, console
+    plannedstop what a planned stop of the controller waits for, and what it loses
+    cli         the commands: siteview, timeline, callbook, archive, capture, carriers, conform, check, restart, hub, console
 """

@@ -6,7 +6,7 @@ many things at once.
 from bisect import bisect_left
 from collections.abc import Generator
 from dataclasses import dataclass, field
-from typing import Protocol
+from typing import Protocol, TypeVar
 
 from temzaar.console import SlotKey, Status, read_calls, read_lines, read_radios, read_slots
 
@@ -15,6 +15,8 @@ RADIOS_A_REPLY, LAST_RADIO = 16, 16777215
 # How many requests may wait for a slot: more are not asked for, whatever the console counts.
 MOST_WAITING = 32
 
+# What questions find.
+Found = TypeVar("Found")
 # Something with an age: a call on a slot, or a request in the queue.
 Standing = tuple[str, SlotKey | None, str]
 
@@ -99,16 +101,20 @@ def ask_radios(most: int) -> Generator[str, list[str], RadioList]:
     return RadioList(tuple(found), first > LAST_RADIO)
 
 
-def take_picture(console: Asked) -> Picture:
-    """The picture of a console that answers at once."""
-    questions = ask_picture()
+def ask_questions(console: Asked, questions: Generator[str, list[str], Found]) -> Found:
+    """What questions find, of a console that answers at once."""
     line = next(questions)
     while True:
         try:
             line = questions.send(console.ask(line))
         except StopIteration as done:
-            picture: Picture = done.value
-            return picture
+            found: Found = done.value
+            return found
+
+
+def take_picture(console: Asked) -> Picture:
+    """The picture of a console that answers at once."""
+    return ask_questions(console, ask_picture())
 
 
 @dataclass(frozen=True)

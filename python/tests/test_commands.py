@@ -12,18 +12,18 @@ import unittest
 from collections.abc import Callable, Iterator, Sequence
 from typing import NamedTuple
 
-from temzaar.cli import callbook, capture, carriers, check, conform, console, hub, siteview, timeline
+from temzaar.cli import archive, callbook, capture, carriers, check, conform, console, hub, restart, siteview, timeline
 from temzaar.ports import free_ports
 from temzaar.process import connect
 from temzaar.sitefile import FREE_PORTS, Site
 from tests.support import EXAMPLES, TOP, TWO_CARRIERS, call_tool, take_signals, tool_words
 
-MAINS: dict[str, Callable[[list[str]], int]] = {"siteview": siteview.main, "timeline": timeline.main, "callbook": callbook.main, "capture": capture.main, "carriers": carriers.main,
-                                                 "conform": conform.main, "check": check.main, "hub": hub.main, "console": console.main}
+MAINS: dict[str, Callable[[list[str]], int]] = {"siteview": siteview.main, "timeline": timeline.main, "callbook": callbook.main, "archive": archive.main, "capture": capture.main, "carriers": carriers.main,
+                                                 "conform": conform.main, "check": check.main, "restart": restart.main, "hub": hub.main, "console": console.main}
 # The words for `--help` that would do harm, or fail, without it.
-HELP_WORDS = {"capture": "--site {none} --program {none} --out {out}", "check": "{none}", "hub": "--config {none}", "console": "--socket {none} status", "callbook": "--records {none}"}
+HELP_WORDS = {"capture": "--site {none} --program {none} --out {out}", "check": "{none}", "hub": "--config {none}", "console": "--socket {none} status", "callbook": "--records {none}", "archive": "--records {none} --folder {none}", "restart": "--site {none} --command {none}"}
 # Those that do something without words.
-WITHOUT_WORDS = ("hub", "console", "callbook")
+WITHOUT_WORDS = ("hub", "console", "callbook", "archive", "restart")
 FAKE = str(TOP / "python" / "tests" / "fake_controller.py")
 SCRIPT, PRINTED = EXAMPLES / "scripts" / "operator.txt", EXAMPLES / "expected" / "operator.txt"
 # What siteview asks of a site of one carrier, in this order, and the replies.
@@ -66,6 +66,8 @@ CASES = (
     Case("console", "--socket {text} status", 1, "cannot connect to the hub {text}: Connection refused"),
     Case("console", "--tcp {free} status", 1, "cannot connect to the console {free}: Connection refused"),
     # no file, a folder for a file, a file of something else
+    *(Case("archive", f"--folder {{folder}} --records {{{file}}}", 1, f"{{{file}}}: {said}") for file, said in (("none", "No such file or directory"), ("text", "not an SQLite database"))),
+    *(Case("archive", f"--folder {{{file}}}", 1, f"{{{file}}}: {said}") for file, said in (("none", "No such file or directory"), ("text", "Not a directory"))),
     *(Case(tool, f"--records {{{file}}}", 1, f"{{{file}}}: {said}") for tool in ("callbook", "timeline")
       for file, said in (("none", "No such file or directory"), ("folder", "Is a directory"), ("text", "not an SQLite database"), ("octets", "not an SQLite database"))),
     *(Case("check", f"{{{file}}}", 2, f"cannot read {{{file}}}: {said}") for file, said in (("none", "No such file or directory"), ("folder", "Is a directory"))),
@@ -108,6 +110,8 @@ CASES = (
     *(Case("conform", f"--site {{site}} --program {{program}} {words}", 2, said) for words, said in (("--row x", "invalid choice"), ("--wait 0", "not a number above 0"))),
     *(Case("check", words, 2, said) for words, said in (("--link-version 3 {site}", "invalid choice"), ("{site} {site}", "unrecognized arguments"))),
     *(Case("callbook", words, 2, said) for words, said in (("--radio x", "not a whole number from 1"), ("--format xml", "invalid choice"), ("site.db", "unrecognized arguments"))),
+    *(Case("archive", words, 2, said) for words, said in (("--keep-days 0", "not a whole number from 1"), ("--older-days x", "not a whole number from 0"), ("2026-11.db", "unrecognized arguments"))),
+    *(Case("restart", f"--site {{site}} {words}", 2, said) for words, said in (("--within 0", "not a number above 0"), ("--back x", "not a number above 0"), ("now", "unrecognized arguments"))),
     *(Case("hub", words, 2, said) for words, said in (("--config", "expected one argument"), ("status", "unrecognized arguments"))),
     *(Case("console", f"{words} status", 2, said) for words, said in (
         ("--tcp 7100", "is not ADDRESS:PORT"), ("--tcp a:70000", "is not ADDRESS:PORT"), ("--seconds 0", "not a number above 0"), ("--tcp a:1 --socket {none}", "not allowed with"))),

@@ -8,7 +8,7 @@ import unittest
 TOP = pathlib.Path(__file__).resolve().parent.parent.parent
 FILE = TOP / "deploy" / "completion" / "dmr.bash"
 MANUAL = TOP / "deploy" / "man"
-COMMANDS = ("dmr_trunk", "dmr_decode", "dmr_siteview", "dmr_timeline", "dmr_callbook", "dmr_capture", "dmr_carriers", "dmr_conform", "dmr_check", "dmr_hub", "dmr_console")
+COMMANDS = ("dmr_trunk", "dmr_decode", "dmr_siteview", "dmr_timeline", "dmr_callbook", "dmr_archive", "dmr_capture", "dmr_carriers", "dmr_conform", "dmr_check", "dmr_restart", "dmr_hub", "dmr_console")
 
 
 def completed(words: list[str], within: pathlib.Path = TOP) -> list[str]:
@@ -50,6 +50,8 @@ class Completion(unittest.TestCase):
             (["dmr_callbook", "--format", "c"], ["csv"]),
             (["dmr_callbook", "--cause", "ma"], ["maximum"]),
             (["dmr_callbook", "--last", ""], []),
+            (["dmr_restart", "--wi"], ["--within"]),
+            (["dmr_archive", "--folder", "dep"], ["deploy"]),
             (["/usr/bin/dmr_hub", "--ch"], ["--check"]),
             (["dmr_trunk", "--terms", ""], []),
         ):

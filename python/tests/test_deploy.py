@@ -9,6 +9,7 @@ import subprocess
 import tempfile
 import unittest
 
+from temzaar.archive import DEFAULT_FOLDER
 from temzaar.sitefile import FREE_PORTS, Site
 from tests.support import TOP, TWO_CARRIERS, program, read_document
 
@@ -76,6 +77,22 @@ class Units(unittest.TestCase):
             for line in settings(read(f"{name}@.service")):
                 if re.match(r"(?:User|RuntimeDirectory|LogsDirectory|StateDirectory|ExecStart)=", line):
                     self.assertIn("%i", line)
+
+
+    def test_archive(self) -> None:
+        """It is as closed as the hub, and more. Its timer is off until somebody enables it."""
+        hub, text = (settings(read(f"{name}.service")) for name in ("dmr_hub", "dmr_archive"))
+        hardening = hub[hub.index("CapabilityBoundingSet="):hub.index("SystemCallErrorNumber=EPERM") + 1]
+        # it has no users to tell apart, and no network
+        closer = {"PrivateUsers=no": "PrivateUsers=yes", "RestrictAddressFamilies=AF_INET AF_UNIX": "RestrictAddressFamilies=none"}
+        self.assertLessEqual({closer.get(it, it) for it in hardening if not it.startswith("#")} | {"PrivateNetwork=yes"}, set(text))
+        self.assertNotIn("[Install]", text)
+        bind = re.findall(r"^BindReadOnlyPaths=(.*):(.*)$", read("systemd/hub_records.conf"), re.M)[0]
+        self.assertIn(f"BindReadOnlyPaths={bind[0]}:{bind[1]}", text)
+        self.assertIn(f"ExecStart=@PREFIX@/bin/dmr_archive --records {bind[1]}/site.db --folder {DEFAULT_FOLDER} $OPTIONS", text)
+        timer = read("dmr_archive.timer")
+        self.assertIn("OnCalendar=daily\n", timer)
+        self.assertNotRegex((TOP / "Makefile").read_text(encoding="utf-8") + (TOP / "ci/package").read_text(encoding="utf-8"), r"systemctl|timers\.target\.wants")
 
 
 class Examples(unittest.TestCase):

@@ -13,8 +13,8 @@ from tests.test_messages import as_pattern, messages
 
 MAN = TOP / "deploy" / "man"
 PAGES = sorted(it.name for it in MAN.iterdir())
-TOOLS = ("siteview", "timeline", "callbook", "capture", "carriers", "conform", "check", "console", "hub")
-PAGE_OF = {tool: f"dmr_{tool}.{8 if tool == 'hub' else 1}" for tool in TOOLS}
+TOOLS = ("siteview", "timeline", "callbook", "archive", "capture", "carriers", "conform", "check", "restart", "console", "hub")
+PAGE_OF = {tool: f"dmr_{tool}.{8 if tool in ('hub', 'archive', 'restart') else 1}" for tool in TOOLS}
 WANTED = {"dmr_trunk.8", "dmr_trunk.5", "dmr_decode.1", *PAGE_OF.values()}
 # The order of sections; a page leaves out those that do not apply.
 ORDER = ("NAME", "SYNOPSIS", "DESCRIPTION", "COMMANDS", "OPTIONS", "JUDGEMENTS", "JOURNAL", "CONSOLE", "SIGNALS", "EXIT STATUS", "DIAGNOSTICS", "ENVIRONMENT", "FILES", "SECURITY", "EXAMPLES", "SEE ALSO")

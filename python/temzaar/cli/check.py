@@ -1,5 +1,6 @@
-"""Checks a site file before a restart: every fault with its place, and what is risky.
+"""Checks a site file before a restart: every fault with its place, and what is risky. With --plan it says how many carriers a site needs.
 
+    check --plan --radios 300 --calls-an-hour 4 --seconds 12     no site file: how many carriers 300 radios need, of which each begins 4 calls of 12 s in an hour
     check site.toml                         the faults and the warnings
     check --explain site.toml               the values too, with times in seconds
     check --controller build/dmr_trunk -    standard input, and the controller's own verdict at the end
@@ -12,6 +13,8 @@ With --names each line of that file that is not used is a warning. So is a name 
 
 The controller that --controller names, or else the dmr_trunk on the PATH, has the last word: it replays an empty script over the file. If it disagrees, that is
 a fault of this tool.
+
+A plan is computed by Erlang C: requests come independently of each other, and wait in their order for a slot. With status 1 sixteen carriers are too few.
 
 Status: 0 right; 1 faults; 2 the words, or a file or program that cannot be read or run; 3 warnings, with --strict; 4 the controller disagrees.
 
@@ -29,6 +32,7 @@ from collections.abc import Sequence
 from typing import BinaryIO
 
 from temzaar.cli.command import add_names_option, clean_up_on_signals, parse_words, run_command
+from temzaar.cli.plan import add_plan_words, print_plan, require_plan_words
 from temzaar.faults import ToolFault
 from temzaar.frames import VERSIONS
 from temzaar.namerisks import check_names
@@ -174,8 +178,10 @@ def read_words(words: Sequence[str] | None) -> argparse.Namespace:
     parser.add_argument("--link-version", type=int, choices=VERSIONS, help="the greatest version of the link that base stations use; warn if the site refuses it")
     parser.add_argument("--controller", metavar="PROGRAM", help="the controller that has the last word (dmr_trunk on the PATH)")
     parser.add_argument("--no-controller", action="store_true", help="do not ask a controller")
+    add_plan_words(parser)
     options = parse_words(parser, words)
-    if options.site is None and options.names is None:
+    require_plan_words(parser, options)
+    if options.site is None and options.names is None and not options.plan:
         parser.error("the following arguments are required: SITE_FILE")
     return options
 
@@ -195,4 +201,5 @@ def main(words: Sequence[str] | None = None) -> int:
     """Runs the command. The status."""
     options = read_words(words)
     clean_up_on_signals()
-    return run_command("check", lambda: check_and_report(options), Status.NOT_CHECKED)
+    action = print_plan if options.plan else check_and_report
+    return run_command("check", lambda: action(options), Status.NOT_CHECKED)

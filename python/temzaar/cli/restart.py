@@ -1,0 +1,254 @@
+"""Restarts the controller at a good moment: it checks the site file, waits for the end of a term,
+restarts, waits until all is back, and says what was lost.
+
+    restart               the site file /etc/dmr_trunk/site.toml, and the unit dmr_trunk
+    restart --dry-run     checks the site file and looks at the site, and restarts nothing
+    restart --now         does not wait for the end of a term
+    restart --site north.toml --records /var/lib/dmr_trunk-north/site.db \\
+        --hub /run/dmr_hub-north/console.sock --command "systemctl restart dmr_trunk@north"
+
+The controller writes what it has recorded, and which radios are registered, at the end of a term.
+A stop loses what came since then, so just after that it loses least. The end of a term is seen as a
+new row in the file of records. If no term ends in time, nothing is restarted, unless --anyway is
+given.
+
+What is there before and after is asked at the console, through the hub if one holds it. The site
+file is judged by the controller that --controller names, or else by the dmr_trunk on the PATH. If
+the file is refused, nothing is restarted.
+
+Status: 0 all carriers and radios came back; 1 nothing was restarted, or the restart failed, as
+standard error says; 2 the words; 3 not all came back.
+"""
+import argparse
+import shlex
+import subprocess
+import tempfile
+import time
+from collections.abc import Sequence
+from typing import NamedTuple
+
+from temzaar.cli.check import PROGRAM, ask_controller, find_controller, read_site
+from temzaar.cli.command import DONE, amount_above, clean_up_on_signals, parse_words, run_command
+from temzaar.console import Console
+from temzaar.faults import ToolFault
+from temzaar.hubconsole import HubConsole, find_hub
+from temzaar.moments import short_text
+from temzaar.plannedstop import (
+    Outcome, Return, Seen, look_at, lost_lines, newest_term, wait_for_term,
+)
+from temzaar.printable import printable
+from temzaar.records import DEFAULT_PATH, RecordedTerm, RecordsFault
+from temzaar.sitefigures import seconds_in_words
+from temzaar.sitefile import Site
+
+DEFAULT_SITE = "/etc/dmr_trunk/site.toml"
+DEFAULT_COMMAND = f"systemctl restart {PROGRAM}"
+NOT_ALL_BACK = 3
+# How long the command may take. systemd waits 90 s for a unit to stop, and as long for its start.
+COMMAND_SECONDS = 300
+# What is repeated of what the command printed.
+MOST_SAID = 200
+
+
+class RestartFault(ToolFault):
+    """Nothing was restarted, or the restart failed. The text says which, and why."""
+
+
+class LateFault(RestartFault):
+    """No term ended in time."""
+
+
+def read_words(words: Sequence[str] | None) -> argparse.Namespace:
+    """The words of the command line."""
+    layout = argparse.RawDescriptionHelpFormatter
+    parser = argparse.ArgumentParser(description=__doc__, formatter_class=layout)
+    parser.add_argument("--site", metavar="FILE", default=DEFAULT_SITE,
+                        help=f"the site file ({DEFAULT_SITE})")
+    parser.add_argument("--records", metavar="FILE", default=DEFAULT_PATH,
+                        help=f"the controller's file of records ({DEFAULT_PATH})")
+    parser.add_argument("--hub", help="the hub, by the path of its socket; without it the one of "
+                                      "this machine that holds the console, if there is one")
+    parser.add_argument("--controller", metavar="PROGRAM",
+                        help="the controller that judges the site file (dmr_trunk on the PATH)")
+    parser.add_argument("--command", metavar="WORDS", default=DEFAULT_COMMAND,
+                        help="the command that restarts the controller, without a shell "
+                             f"({DEFAULT_COMMAND})")
+    parser.add_argument("--within", metavar="SECONDS", type=amount_above(0, 86400), default=600.0,
+                        help="how long to wait for the end of a term (600)")
+    parser.add_argument("--anyway", action="store_true",
+                        help="if no term ends in time, restart all the same")
+    parser.add_argument("--now", action="store_true", help="do not wait for the end of a term")
+    parser.add_argument("--back", metavar="SECONDS", type=amount_above(0, 3600), default=60.0,
+                        help="how long the console and the carriers may take to come back after "
+                             "the command (60)")
+    parser.add_argument("--dry-run", action="store_true",
+                        help="check the site file, look at the site, and restart nothing")
+    options = parse_words(parser, words)
+    try:
+        options.words = shlex.split(options.command)
+    except ValueError as fault:
+        parser.error(f"argument --command: {fault}: {options.command!r}")
+    if not options.words:
+        parser.error("argument --command: there is no word in it")
+    return options
+
+
+def say(line: str) -> None:
+    """Prints a line, at once."""
+    print(line, flush=True)
+
+
+def require_accepted(options: argparse.Namespace) -> Site:
+    """The site of the site file. RestartFault: the controller refuses the file, or there is no
+    controller that judges it."""
+    program = find_controller(options.controller, False)
+    if program is None:
+        raise RestartFault(f"there is no {PROGRAM} on the PATH that judges the site file: "
+                           "name it with --controller")
+    verdict = ask_controller(program, read_site(options.site))
+    if verdict.fault is not None:
+        raise RestartFault(f"{options.site}: {verdict.words}; dmr_check shows the place")
+    say(f"{printable(options.site)}: {printable(verdict.words)}")
+    return Site(options.site)
+
+
+class Restart:
+    """A restart of the controller of a site."""
+
+    def __init__(self, options: argparse.Namespace, site: Site) -> None:
+        self.options, self.site = options, site
+        ranges = [range(first, last + 1) for first, last in site.plan["radios"]]
+        self.carriers = frozenset(row["number"] for row in site.rows)
+        self.lists = lambda radio: any(radio in it for it in ranges)
+
+    def connect(self) -> Console:
+        """A connection to the console, through the hub if there is one. ConsoleFault: there is no
+        console."""
+        if self.options.hub is not None:
+            return HubConsole(self.options.hub)
+        address, port = self.site.address, self.site.console_port
+        return find_hub(f"{address}:{port}") or Console(address, port)
+
+    def look(self) -> Seen:
+        """What the site has now. The connection ends before the stop. ConsoleFault: the console
+        does not answer."""
+        with self.connect() as console:
+            return look_at(console)
+
+    def last_term(self) -> RecordedTerm | None:
+        """The newest recorded term; None if there is none, or if it is neither known nor waited
+        for. RecordsFault: it cannot be read."""
+        try:
+            return newest_term(self.options.records)
+        except RecordsFault:
+            if self.options.now:
+                return None
+            raise
+
+    def wait_for_term(self, last: RecordedTerm | None) -> RecordedTerm | None:
+        """Waits for the end of a term. The newest term then. LateFault: none ended in time.
+        RecordsFault: the file of records cannot be read."""
+        within = f"within {self.options.within:g} s"
+        say(f"waiting for the end of a term, at most {self.options.within:g} s")
+        began = time.monotonic()
+        term = wait_for_term(self.options.records, last, self.options.within)
+        if term is None and not self.options.anyway:
+            raise LateFault(f"no term ended {within}")
+        if term is None:
+            say(f"no term ended {within}")
+            return last
+        say(f"term {term.number} ended, after {time.monotonic() - began:.1f} s")
+        return term
+
+    def run_command(self) -> None:
+        """Runs the command. RestartFault: it cannot be run, does not end, or ends with another
+        status than 0."""
+        words, command = self.options.words, self.options.command
+        with tempfile.TemporaryFile() as output:
+            try:
+                done = subprocess.run(words, stdin=subprocess.DEVNULL, stdout=output, stderr=output,
+                                      timeout=COMMAND_SECONDS, check=False)
+            except (OSError, ValueError) as fault:
+                reason = fault.strerror if isinstance(fault, OSError) else fault
+                raise RestartFault(f"cannot run {words[0]}: {reason}") from fault
+            except subprocess.TimeoutExpired as fault:
+                raise RestartFault(f"{command} did not end within {COMMAND_SECONDS:g} s") from fault
+            output.seek(0)
+            text = output.read()[-MOST_SAID:].decode("utf-8", "replace")
+        if done.returncode:
+            last = text.strip().rpartition("\n")[2]
+            said = f": {last}" if last else ""
+            raise RestartFault(f"{command} ended with status {done.returncode}{said}")
+
+    def stop_and_return(self, before: Seen, last: RecordedTerm | None) -> int:
+        """Restarts, waits until all is back, and prints what was lost. The status. RestartFault:
+        the restart failed."""
+        began, stopped_ms = time.monotonic(), time.time_ns() // 1_000_000
+        self.run_command()
+        found = Return(self.look, began)
+        found.wait(before.up & self.carriers, time.monotonic() + self.options.back)
+        for line in lost_lines(before):
+            say(line)
+        if last:
+            lasted = seconds_in_words(max(0, stopped_ms - last.ended_ms))
+            say(f"not recorded: the {lasted} since {short_text(last.ended_ms)}")
+        return self.report(before, found)
+
+    def report(self, before: Seen, found: Return) -> int:
+        """Prints what came back. The status. RestartFault: nothing did, or nothing was stopped."""
+        if found.first is None or found.last is None:
+            within = f"within {self.options.back:g} s"
+            raise RestartFault(f"the console did not answer {within}: {found.fault}")
+        if Outcome(before, found.first, self.carriers, self.lists).was_not_stopped():
+            raise RestartFault("a call goes on that was active before: "
+                               f"{self.options.command} has not restarted this controller")
+        outcome = Outcome(before, found.last, self.carriers, self.lists)
+        say(f"console: answered {found.seconds(found.first):.1f} s after the stop")
+        for line in outcome.lines():
+            say(line)
+        say(f"now: {found.seconds(found.last):.1f} s after the stop")
+        return DONE if outcome.is_whole() else NOT_ALL_BACK
+
+
+class Ready(NamedTuple):
+    """A restart that may begin: what the site has, and the newest recorded term, if it is known."""
+    restart: Restart
+    before: Seen
+    last: RecordedTerm | None
+
+
+def prepare(options: argparse.Namespace) -> Ready | None:
+    """All up to the restart. None: there is to be none. ToolFault: there must be none now."""
+    restart = Restart(options, require_accepted(options))
+    before, last = restart.look(), restart.last_term()
+    say(before.counts())
+    if options.dry_run:
+        waits = f"wait for the end of a term, at most {options.within:g} s, and "
+        say(f"would {'' if options.now else waits}run: {printable(options.command)}")
+        return None
+    if options.now:
+        return Ready(restart, before, last)
+    last = restart.wait_for_term(last)
+    return Ready(restart, restart.look(), last)
+
+
+def restart_site(options: argparse.Namespace) -> int:
+    """Does what the words say. The status. RestartFault: nothing was restarted, or the restart
+    failed."""
+    try:
+        ready = prepare(options)
+    except ToolFault as fault:
+        is_of_terms = isinstance(fault, RecordsFault | LateFault)
+        hint = "; with --now the end of a term is not waited for" if is_of_terms else ""
+        raise RestartFault(f"nothing was restarted: {fault}{hint}") from fault
+    if ready is None:
+        return DONE
+    say(f"running: {printable(options.command)}")
+    return ready.restart.stop_and_return(ready.before, ready.last)
+
+
+def main(words: Sequence[str] | None = None) -> int:
+    """Runs the command. The status."""
+    options = read_words(words)
+    clean_up_on_signals()
+    return run_command("restart", lambda: restart_site(options))

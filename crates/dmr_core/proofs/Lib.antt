@@ -38,7 +38,3 @@ mod EqualityLemmas
 pub mod ConsoleLemmas
 pub mod PollSizes
 pub mod CoreLaws
-mod Cases
-mod GroupCases
-mod LateCases
-mod IndividualCases

@@ -1,10 +1,8 @@
 //! A PDU in words, as it is printed: its name, and `name=value` for each field. A missing field is 0, but `lpcn` must
 //! be there. `OTHER` has ten octets in digits.
 
-ghost use Rattle.std.specs.Prelude.{◌<◌};
-
 use crate::printable::Printable;
-use dmr_pdu::{Address, Kind, Lpcn, Number, Pdu, Reason, SlotNo, SystemCode, layouts};
+use dmr_pdu::{Kind, Lpcn, Pdu, Reason, layouts};
 use thiserror::Error;
 
 /// The fault of words that are not a PDU.
@@ -25,128 +23,45 @@ pub enum WordFault<'a> {
     BadValue(&'a str),
 }
 
-/// Returns the value with a name. These are the values that have one.
-fn named<T: Copy>(names: &[(T, &str)], name: &str) -> Option<T> {
-    for (value, known) in names {
-        if *known == name {
-            return Some(*value);
-        }
-    }
-    None
-}
-
-/// The fields after a PDU's name, which are read one after the other. If one has no value, or no valid one, the reading
-/// goes on, so that there is one way out of it: [`Fields::checked`] returns the first fault.
+/// What the text of a field's value may be.
 #[derive(Clone, Copy)]
-struct Fields<'w, 'a> {
-    words: &'w [&'a str],
-    fault: Option<WordFault<'a>>,
+enum Form {
+    /// A number.
+    Number,
+    /// The number of a channel, which has to be given.
+    Channel,
+    /// The name or the number of a service kind.
+    Kind,
+    /// The name or the number of a reason.
+    Reason,
 }
 
-impl<'w, 'a> Fields<'w, 'a> {
-    /// Returns the fields. If one of them has none of these names, that is the first fault.
-    fn of(words: &'w [&'a str], names: &[&str]) -> Fields<'w, 'a> {
-        for word in words {
-            let name = word.split_once('=').map(|pair| pair.0);
-            if !names.iter().any(|known| name == Some(*known)) {
-                return Fields {
-                    words,
-                    fault: Some(WordFault::NoSuchField(Printable(*word))),
-                };
-            }
-        }
-        Fields { words, fault: None }
-    }
-
-    /// Returns the PDU that was read, or the first fault of its fields.
-    fn checked(&self, pdu: Pdu) -> Result<Pdu, WordFault<'a>> {
-        match self.fault {
-            None => Ok(pdu),
-            Some(fault) => Err(fault),
-        }
-    }
-
-    /// Keeps that the value of a field is bad, unless one before it was.
-    fn refuse(&mut self, name: &'static str) {
-        if self.fault.is_none() {
-            self.fault = Some(WordFault::BadValue(name));
-        }
-    }
-
-    /// Returns the text of a field, if it is given.
-    fn text(&self, name: &str) -> Option<&'a str> {
-        for word in self.words {
-            if let Some((given, value)) = word.split_once('=') {
-                if given == name {
-                    return Some(value);
-                }
-            }
-        }
-        None
-    }
-
-    /// Returns the number of a field, which is below a bound, or 0 if it is missing or bad; a bad value is kept as a
-    /// fault.
-    fn number(&mut self, name: &'static str, bound: u32) -> u32
-        requires { 0 < bound }
-        ensures { result < bound }
-    {
-        let Some(text) = self.text(name) else {
-            return 0;
-        };
-        match text.parse::<u32>() {
-            Ok(number) if number < bound => number,
-            _ => {
-                self.refuse(name);
-                0
-            }
-        }
-    }
-
-    /// Returns a channel, which has to be given.
-    fn channel(&mut self, name: &'static str) -> Lpcn {
-        match Lpcn::try_new(self.number(name, 4096)) {
-            Some(channel) => channel,
-            None => {
-                self.refuse(name);
-                Lpcn::new(1)
-            }
-        }
-    }
-
-    /// Returns the service kind, by its name or number.
-    fn kind(&mut self, name: &'static str) -> Kind {
-        match named(&Kind::NAMES, self.text(name).unwrap_or("")) {
-            Some(kind) => kind,
-            None => Kind::new(self.number(name, 16)),
-        }
-    }
-
-    /// Returns the reason, by its name or number.
-    fn reason(&mut self, name: &'static str) -> Reason {
-        match named(&Reason::NAMES, self.text(name).unwrap_or("")) {
-            Some(reason) => reason,
-            None => Reason::new(self.number(name, 256)),
-        }
-    }
+/// A row of a layout that has a field.
+#[derive(Clone, Copy)]
+struct Row {
+    /// The field.
+    name: &'static str,
+    /// The number that its value is below.
+    bound: u32,
+    /// How many bits are after it.
+    after: u32,
+    /// What its text may be.
+    form: Form,
 }
 
-/// The value of a field, which is read from its word.
-macro_rules! field_in {
-    ($fields:ident, $width:literal, $field:ident: bool) => {
-        $fields.number(stringify!($field), 2) == 1
+/// The form of a field's value, by its type.
+macro_rules! form_of {
+    (Lpcn) => {
+        Form::Channel
     };
-    ($fields:ident, $width:literal, $field:ident: Lpcn) => {
-        $fields.channel(stringify!($field))
+    (Kind) => {
+        Form::Kind
     };
-    ($fields:ident, $width:literal, $field:ident: Kind) => {
-        $fields.kind(stringify!($field))
+    (Reason) => {
+        Form::Reason
     };
-    ($fields:ident, $width:literal, $field:ident: Reason) => {
-        $fields.reason(stringify!($field))
-    };
-    ($fields:ident, $width:literal, $field:ident: $type:ident) => {
-        $type::new($fields.number(stringify!($field), 1 << $width))
+    ($type:ident) => {
+        Form::Number
     };
 }
 
@@ -154,11 +69,7 @@ macro_rules! field_in {
 macro_rules! pdu_in {
     (($name:expr, $words:expr); $($variant:ident = $opcode:literal, $called:literal { $($first:literal, $width:literal $(=> $field:ident: $type:ident)?;)* })*) => {
         match $name {
-            $($called => {
-                let mut fields = Fields::of($words, &[$($(stringify!($field),)?)*]);
-                let pdu = Pdu::$variant { $($($field: field_in!(fields, $width, $field: $type),)?)* };
-                fields.checked(pdu)
-            })*
+            $($called => pdu_of_rows($opcode, &[$($(Row { name: stringify!($field), bound: 1 << $width, after: 80 - $first - $width, form: form_of!($type) },)?)*], $words),)*
             "OTHER" => other($words),
             _ => Err(WordFault::NoSuchPdu(Printable($name))),
         }
@@ -171,6 +82,72 @@ pub fn pdu_of<'a>(words: &[&'a str]) -> Result<Pdu, WordFault<'a>> {
         return Err(WordFault::NoName);
     };
     layouts!(pdu_in, (*name, fields))
+}
+
+/// Returns the PDU of a layout's opcode and rows, with the values in these words.
+fn pdu_of_rows<'a>(opcode: u8, rows: &[Row], words: &[&'a str]) -> Result<Pdu, WordFault<'a>> {
+    for word in words {
+        let name = word.split_once('=').map(|pair| pair.0);
+        if !rows.iter().any(|row| name == Some(row.name)) {
+            return Err(WordFault::NoSuchField(Printable(*word)));
+        }
+    }
+    let mut number = 0;
+    for row in rows {
+        match value_in(row, words) {
+            Some(value) => number |= u64::from(value) << (row.after % 64),
+            None => return Err(WordFault::BadValue(row.name)),
+        }
+    }
+    let [a, b, c, d, e, f, g, h] = number.to_be_bytes();
+    Ok(Pdu::from_octets(&[opcode, 0, a, b, c, d, e, f, g, h]))
+}
+
+/// Returns the value of a row's field, or `None` if it is bad.
+fn value_in(row: &Row, words: &[&str]) -> Option<u32> {
+    let text = text_in(row.name, words);
+    match row.form {
+        Form::Number => number_in(text, row.bound),
+        Form::Channel => Some(Lpcn::try_new(number_in(text, row.bound)?)?.get()),
+        Form::Kind => match named(&Kind::NAMES, text) {
+            Some(kind) => Some(kind.get()),
+            None => number_in(text, row.bound),
+        },
+        Form::Reason => match named(&Reason::NAMES, text) {
+            Some(reason) => Some(reason.get()),
+            None => number_in(text, row.bound),
+        },
+    }
+}
+
+/// Returns the text of a field, or `0` if it is missing.
+fn text_in<'a>(name: &str, words: &[&'a str]) -> &'a str {
+    for word in words {
+        if let Some((given, value)) = word.split_once('=') {
+            if given == name {
+                return value;
+            }
+        }
+    }
+    "0"
+}
+
+/// Returns the number that a text is, if it is below a bound.
+fn number_in(text: &str, bound: u32) -> Option<u32> {
+    match text.parse::<u32>() {
+        Ok(number) if number < bound => Some(number),
+        _ => None,
+    }
+}
+
+/// Returns the value with a name. These are the values that have one.
+fn named<T: Copy>(names: &[(T, &str)], name: &str) -> Option<T> {
+    for (value, known) in names {
+        if *known == name {
+            return Some(*value);
+        }
+    }
+    None
 }
 
 /// Returns the PDU of any ten octets.

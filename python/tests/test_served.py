@@ -73,7 +73,7 @@ class Listening(unittest.TestCase):
 
     def test_a_registration_is_acknowledged(self) -> None:
         """A site is served at the address of its site file, and not at 127.0.0.1. After one term the program ends with status 0."""
-        site = Site(TWO_CARRIERS, first_port=FREE_PORTS, address=[int(it) for it in self.OTHER.split(".")], tick_ms=10, term_entries=300)
+        site = Site(TWO_CARRIERS, first_port=FREE_PORTS, address=[int(it) for it in self.OTHER.split(".")], tick_ms=10, term_entries=1000)
         port = site.row(0)["port"]
         with Controller(program("dmr_trunk"), site, ["--terms", "1"]) as controller:
             controller.wait_until_served()

@@ -203,6 +203,14 @@ cut => done; -; 0
 serve => closed; -; 0
 reads => 2
 
+# A burst that has begun means nothing, and the next connection is served whole.
+begin octets 1 4 1 0 0 1 2 26 0; read block =>
+serve => idle; up; 3
+cut => done; lost; 3
+open => yes
+port first 36 =>
+serve => closed; up heard poll lost; 33
+
 begin first 36 =>
 cut => done; -; 0
 serve => closed; -; 0

@@ -18,7 +18,7 @@ from temzaar.sitefile import Site
 
 # The programs and the tools of operators.
 PROGRAMS = ("dmr_trunk", "dmr_decode")
-TOOLS = ("siteview", "timeline", "capture", "carriers", "conform", "check", "hub", "console")
+TOOLS = ("siteview", "timeline", "carriers", "conform", "check", "hub", "console")
 # A fenced block that is a file: its name and its text.
 SAVED = re.compile(r"^<!-- check: saved as ([\w.-]+) -->\n```\w*\n(.*?)^```$", re.M | re.S)
 # The programs nc and xxd, for a machine that has none.

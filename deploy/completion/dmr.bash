@@ -9,7 +9,6 @@ _dmr_options() {
         dmr_timeline) echo --site --script --printed --program --out --records --start --from --to --page --calls --names --version --help ;;
         dmr_callbook) echo --records --format --radio --group --carrier --cause --from --to --last --names --seconds --version --help ;;
         dmr_archive) echo --records --folder --older-days --keep-days --seconds --version --help ;;
-        dmr_capture) echo --site --program --out --running --shift --seconds --pcap --unfinished --version --help ;;
         dmr_carriers) echo --site --program --pid --port --carriers --link-version --radios --seconds --polls --fast --seed --faults --troubles --version --help ;;
         dmr_conform) echo --site --program --link-version --row --wait --json --version --help ;;
         dmr_check) echo --names --explain --strict --json --link-version --controller --no-controller --plan --radios --calls-an-hour --seconds --wait --share --version --help ;;
@@ -45,9 +44,9 @@ _dmr() {
         --config) _dmr_files toml "$word" ;;
         --records) _dmr_files db "$word" ;;
         --names) _dmr_files csv "$word" ;;
-        --script | --printed | --unfinished) _dmr_files txt "$word" ;;
+        --script | --printed) _dmr_files txt "$word" ;;
         --folder) compopt -o filenames; mapfile -t COMPREPLY < <(compgen -d -- "$word") ;;
-        --out | --pcap | --socket | --hub) _dmr_files "" "$word" ;;
+        --out | --socket | --hub) _dmr_files "" "$word" ;;
         --program | --controller | --command) mapfile -t COMPREPLY < <(compgen -c -- "$word") ;;
         --link-version) mapfile -t COMPREPLY < <(compgen -W "1 2" -- "$word") ;;
         --format) mapfile -t COMPREPLY < <(compgen -W "table csv json" -- "$word") ;;
@@ -57,7 +56,7 @@ _dmr() {
             mapfile -t COMPREPLY < <(compgen -W "$rows" -- "$word")
             ;;
         --calls) mapfile -t COMPREPLY < <(compgen -W "text csv json" -- "$word") ;;
-        --terms | --wait | --every | --seconds | --polls | --seed | --radios | --carriers | --port | --pid | --shift | --page | --troubles | --start | --from | --to | --tcp | --console | --radio | --group | --carrier | --last | --older-days | --keep-days | --within | --back | --calls-an-hour | --share) COMPREPLY=() ;;
+        --terms | --wait | --every | --seconds | --polls | --seed | --radios | --carriers | --port | --pid | --page | --troubles | --start | --from | --to | --tcp | --console | --radio | --group | --carrier | --last | --older-days | --keep-days | --within | --back | --calls-an-hour | --share) COMPREPLY=() ;;
         *)
             if [ "$command" = dmr_check ] && [ "${word#-}" = "$word" ]; then
                 _dmr_files toml "$word"
@@ -68,4 +67,4 @@ _dmr() {
     esac
 }
 
-complete -F _dmr dmr_trunk dmr_decode dmr_siteview dmr_timeline dmr_callbook dmr_archive dmr_capture dmr_carriers dmr_conform dmr_check dmr_restart dmr_hub dmr_console
+complete -F _dmr dmr_trunk dmr_decode dmr_siteview dmr_timeline dmr_callbook dmr_archive dmr_carriers dmr_conform dmr_check dmr_restart dmr_hub dmr_console

@@ -25,12 +25,7 @@ comparison of the two means something. One module per subject, lowest first:
     console     an operator's console
     picture     a picture of a served site, made of several answers of its console
     process     a controller that a tool starts, or replays a script with; other programs that it starts
-    relay       the relay between carriers, operators and a controller, which records, cuts, joins and withholds
-    journal     the files of a recorded session, which grow piece by piece
-    capturefile packet captures: pcap and pcapng files
-    segments    the TCP segments in packets
-    tcpstreams  TCP connections put together again
-    pcapsession the session of a site in a packet capture
+    relay       the relay between carriers and a controller, which cuts, joins and withholds
     grants      which call a grant belongs to
     calls       the calls of a session: when, whose, how long they waited, and why they ended
     callsheet   the list of calls as text, CSV and JSON
@@ -42,12 +37,11 @@ comparison of the two means something. One module per subject, lowest first:
     recordgaps  the times of which a file of records has nothing
     recordsheet the calls of a file of records as a table, CSV and JSON
     recordsession a period of a file of records as a session that can be drawn
-    ticks       where the ticks of a recorded session fell
     player      the play of a site's carriers and radios
     trouble     the same with connections that break, stall and misbehave
     conformance the table of docs/LINK.md by which a base station's client is judged
     hub         a service that holds the console and serves many who ask
     hubconsole  a connection to the hub, and what its lines may be completed to
     plannedstop what a planned stop of the controller waits for, and what it loses
-    cli         the commands: siteview, timeline, callbook, archive, capture, carriers, conform, check, restart, hub, console
+    cli         the commands: siteview, timeline, callbook, archive, carriers, conform, check, restart, hub, console
 """

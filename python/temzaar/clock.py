@@ -5,8 +5,6 @@ from datetime import date, datetime, time, timedelta
 
 from temzaar.faults import ToolFault
 
-# The comment with which a recorded script says when it began.
-BEGAN = re.compile(r"^# Began at (\d{4}-\d\d-\d\d \d\d:\d\d:\d\d(?:\.\d{1,6})?)\b", re.M)
 # The date of a start that is given as a time of day: it is never shown.
 NO_DATE = date(2000, 1, 1)
 # The most pages that a session is cut into.
@@ -33,17 +31,6 @@ class Window:
             raise ClockFault(f"more than {MOST_PAGES} pages: give a longer --page, or --from and --to")
         starts = range(self.first, max(self.end - 1, self.first + 1), ticks)
         return [Window(first, self.end if first + ticks >= self.end - 1 else first + ticks) for first in starts]
-
-
-def begin_comment(began: datetime) -> str:
-    """The comment of a script that says when tick 0 was."""
-    return f"# Began at {began:%Y-%m-%d %H:%M:%S}.{began.microsecond // 1000:03}"
-
-
-def recorded_start(script: str) -> str | None:
-    """The time at which a recorded script says that it began, as text; None if it says none."""
-    found = BEGAN.search(script)
-    return found[1] if found else None
 
 
 def read_moment(text: str, day: date) -> datetime:

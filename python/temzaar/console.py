@@ -15,8 +15,6 @@ CHANGES = ("drop", "end", "move", "stay")
 # How many octets a line may have before its LF, and what the controller answers to a longer one and to one that is not a command.
 LONGEST_LINE = 80
 TOO_LONG, UNKNOWN = b"error line too long\n", b"error unknown command\n"
-# Replies of one line begin with one of these.
-SINGLE_REPLIES = (b"status", b"ok", b"error")
 
 # More octets than wait to be read from a console, and more lines than any list has.
 MOST_OCTETS, MOST_LINES = 1 << 16, 1000

@@ -50,14 +50,6 @@ def read_text(path: str, most: int = MOST_OCTETS) -> str:
         raise ToolFault(f"{path}: octet {fault.start} is not UTF-8") from fault
 
 
-def require_writable(path: str) -> None:
-    """Opens a file for writing and leaves its contents as they are. ToolFault: it cannot be written."""
-    try:
-        os.close(os.open(path, os.O_WRONLY | os.O_CREAT | os.O_CLOEXEC, 0o666))
-    except OSError as fault:
-        raise system_fault(path, fault) from fault
-
-
 def write_text(path: str, text: str) -> None:
     """Writes a text file in place of one that may exist. ToolFault: it cannot be written."""
     try:

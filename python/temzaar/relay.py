@@ -1,4 +1,4 @@
-"""The relay before a controller: it passes octets between carriers, operators and the controller, and records them as pieces in the site's order.
+"""The relay before a controller: it passes octets between carriers and the controller, and keeps what came from one of them.
 
 A manner says how answers reach a carrier: frame by frame, or as a network and a busy machine may deliver them.
 """
@@ -10,17 +10,14 @@ import time
 from collections.abc import Callable, Iterator
 from dataclasses import dataclass, field
 
-from temzaar.console import SINGLE_REPLIES
 from temzaar.frames import FROM_CARRIER, Cutter, Frame, FrameType
-from temzaar.journal import Journal
 from temzaar.process import connect
-from temzaar.script import OPERATORS, Input, SessionFault
+from temzaar.script import SessionFault
 from temzaar.sitefile import Site
-from temzaar.ticks import Piece
 
 # Seconds for which frames without an answer wait for one that has one, and for which either side may take to answer or to read.
 HOLD, PATIENCE = 0.2, 10.0
-# The most octets of a line, or of an answer, that are kept before their end has come.
+# The most octets that are kept before an answer.
 MOST_HELD = 1 << 16
 ANSWERED = (FrameType.HELLO, FrameType.POLL, FrameType.BYE)
 # Seconds between octets that are sent alone.
@@ -54,30 +51,32 @@ class Connection:
         return [time for time, frame in self.received if frame.kind == FrameType.POLL]
 
 
-class Connections(Journal):
-    """The connections of one carrier, oldest first, in place of a file."""
+class Connections:
+    """The connections of one carrier, oldest first. Those of other carriers are not kept."""
 
     def __init__(self, carrier: int) -> None:
-        super().__init__()
         self.carrier, self.found = carrier, list[Connection]()
 
-    def add(self, piece: Piece) -> None:
-        """Adds what the carrier sent, or that it connected or ended its connection."""
-        if piece.to() == self.carrier:
-            if piece.input.kind == "open":
-                self.found.append(Connection(piece.time))
-            last = self.found[-1]
-            last.ended = piece.input.kind == "cut"
-            last.received += [(piece.time, frame) for frame in last.cutter.feed(piece.input.octets)]
+    def open(self, carrier: int) -> None:
+        """A carrier connected."""
+        if carrier == self.carrier:
+            self.found.append(Connection(time.monotonic()))
 
-    def answer(self, piece: Piece) -> None:
-        """The answer to the piece that was added last is whole."""
-        if piece.to() == self.carrier:
-            self.found[-1].answer = self.found[-1].answer or piece.answer
+    def receive(self, carrier: int, octets: bytes) -> None:
+        """A carrier sent octets, which are handed to the controller now."""
+        if carrier == self.carrier:
+            now, last = time.monotonic(), self.found[-1]
+            last.received += [(now, frame) for frame in last.cutter.feed(octets)]
 
+    def answer(self, carrier: int, octets: bytes) -> None:
+        """The controller answered what came last."""
+        if carrier == self.carrier:
+            self.found[-1].answer = self.found[-1].answer or octets
 
-class ControllerLost(SessionFault):
-    """The controller has ended, or takes no connection any more."""
+    def end(self, carrier: int) -> None:
+        """The carrier's connection has ended."""
+        if carrier == self.carrier:
+            self.found[-1].ended = True
 
 
 class Ended(Exception):
@@ -135,7 +134,7 @@ def without_tx(number: int) -> Manner:
 
 
 class Upstream:
-    """The connection to the controller that belongs to one from a carrier or an operator."""
+    """The connection to the controller that belongs to one from a carrier."""
 
     def __init__(self, address: str, port: int) -> None:
         self.stream, self.octets = connect(address, port), b""
@@ -158,33 +157,21 @@ class Upstream:
         frame, self.octets = self.octets[:2 + self.octets[1]], self.octets[2 + self.octets[1]:]
         return frame
 
-    def line(self) -> bytes:
-        """The next line, with its LF."""
-        while b"\n" not in self.octets:
-            self.read()
-        line, _, self.octets = self.octets.partition(b"\n")
-        return line + b"\n"
-
-    def reply(self) -> bytes:
-        """The reply to one line of an operator."""
-        reply = line = self.line()
-        if not line.startswith(SINGLE_REPLIES):
-            while line != b"end\n" and len(reply) < MOST_HELD:
-                line = self.line()
-                reply += line
-        return reply
-
 
 class Side:
-    """A connection that is passed on: of a carrier, or of an operator."""
+    """A carrier's connection that is passed on."""
 
-    def __init__(self, journal: Journal, carrier: int, stream: socket.socket, port: int, manner: Manner) -> None:
-        self.journal, self.carrier, self.stream, self.manner = journal, carrier, stream, manner
+    def __init__(self, kept: Connections, carrier: int, stream: socket.socket, port: int, manner: Manner) -> None:
+        self.kept, self.carrier, self.stream, self.manner = kept, carrier, stream, manner
         # a side that does not read ends its own connection, and delays the others no longer
         stream.settimeout(PATIENCE)
-        self.upstream, self.held = Upstream("127.0.0.1", port), b""
+        self.upstream, self.cutter, self.up = Upstream("127.0.0.1", port), Cutter(FROM_CARRIER), False
+        # octets that were not handed over yet, and their frames; None marks octets from which no frame can follow
+        self.held = b""
+        self.waiting: list[Frame | None] = []
         # when the oldest octet that is held came
         self.since: float | None = None
+        kept.open(carrier)
 
     def receive(self) -> None:
         """Takes the octets received. Ended: the other side closed the connection."""
@@ -193,59 +180,34 @@ class Side:
         except OSError:
             piece = b""
         if not piece or len(self.held) > MOST_HELD:
-            raise Ended("the other side closed, or sends a line without an end")
+            raise Ended("the other side closed, or sends frames without an answer without end")
+        had_fault = self.cutter.fault is not None
         self.held += piece
+        self.waiting += self.cutter.feed(piece)
+        if self.cutter.fault and not had_fault:
+            self.waiting.append(None)
         self.since = self.since or time.monotonic()
 
-    def pass_on(self, given: Input, answers: Iterator[bytes]) -> None:
-        """Hands an input to the controller, and each part of its answer back; `answers` reads the parts."""
-        piece = Piece(given, time.monotonic())
-        self.journal.add(piece)
+    def hand_over(self, now: float) -> None:
+        """Hands over what is held, if it is answered, or has waited long enough. Ended: either side ended the connection."""
+        is_answered = any(frame is None or frame.kind in ANSWERED for frame in self.waiting)
+        if self.held and (is_answered or self.since and now - self.since > HOLD):
+            octets, frames, self.held, self.waiting, self.since = self.held, self.waiting, b"", [], None
+            self.pass_on(octets, self.answers(frames))
+
+    def pass_on(self, octets: bytes, answers: Iterator[bytes]) -> None:
+        """Hands octets to the controller, and each part of its answer back; `answers` reads the parts."""
+        self.kept.receive(self.carrier, octets)
+        answer = b""
         try:
-            self.upstream.stream.sendall(given.octets)
+            self.upstream.stream.sendall(octets)
             for part in self.manner(answers):
-                piece.answer += part
+                answer += part
                 self.stream.sendall(part)
         except OSError as fault:
             raise Ended(str(fault)) from fault
         finally:
-            self.journal.answer(piece)
-
-    def hand_over(self, now: float) -> None:
-        """Hands over what is held, if it is complete, or has waited long enough."""
-        raise NotImplementedError
-
-    def finish(self) -> None:
-        """The connection has ended."""
-
-    def close(self) -> None:
-        """Closes both streams."""
-        self.stream.close()
-        self.upstream.stream.close()
-
-
-class CarrierSide(Side):
-    """A carrier's connection."""
-
-    def __init__(self, journal: Journal, carrier: int, stream: socket.socket, port: int, manner: Manner) -> None:
-        super().__init__(journal, carrier, stream, port, manner)
-        self.cutter, self.up = Cutter(FROM_CARRIER), False
-        # octets that were cut and not handed over yet, and their frames; None marks octets from which no frame can follow
-        self.cut = b""
-        self.waiting: list[Frame | None] = []
-        journal.add(Piece(Input("open", carrier), time.monotonic()))
-
-    def hand_over(self, now: float) -> None:
-        if self.held:
-            had_fault = self.cutter.fault is not None
-            self.waiting += self.cutter.feed(self.held)
-            if self.cutter.fault and not had_fault:
-                self.waiting.append(None)
-        self.cut, self.held = self.cut + self.held, b""
-        answered = any(frame is None or frame.kind in ANSWERED for frame in self.waiting)
-        if self.cut and (answered or self.since and now - self.since > HOLD):
-            octets, frames, self.cut, self.waiting, self.since = self.cut, self.waiting, b"", [], None
-            self.pass_on(Input("bytes", self.carrier, octets), self.answers(frames))
+            self.kept.answer(self.carrier, answer)
 
     def answers(self, frames: list[Frame | None]) -> Iterator[bytes]:
         """The frames that the controller sends for these, as they come."""
@@ -270,41 +232,37 @@ class CarrierSide(Side):
             self.upstream.read()
 
     def finish(self) -> None:
-        rest = self.cut + self.held
-        if rest:
-            self.journal.add(Piece(Input("bytes", self.carrier, rest), time.monotonic()))
+        """The connection has ended: the controller gets the rest, and ends its own."""
+        if self.held:
+            self.kept.receive(self.carrier, self.held)
         try:
-            if rest:
-                self.upstream.stream.sendall(rest)
+            if self.held:
+                self.upstream.stream.sendall(self.held)
             self.upstream.stream.shutdown(socket.SHUT_WR)
             self.wait_for_end()
         except (OSError, Ended):
             pass
-        self.journal.add(Piece(Input("cut", self.carrier), time.monotonic()))
+        self.kept.end(self.carrier)
 
-
-class OperatorSide(Side):
-    """An operator's connection: whole lines are handed over; what follows the last LF at the end means nothing."""
-
-    def hand_over(self, now: float) -> None:
-        while b"\n" in self.held:
-            line, _, self.held = self.held.partition(b"\n")
-            self.pass_on(Input("text", octets=line + b"\n"), (self.upstream.reply() for _ in range(1)))
-        self.since = None
+    def close(self) -> None:
+        """Closes both streams."""
+        self.stream.close()
+        self.upstream.stream.close()
 
 
 class Relay:
-    """The ports, and the connections that are passed on; the journal has the pieces. SessionFault: a port cannot be listened on."""
+    """The ports of the carriers, and the connections that are passed on. SessionFault: a port cannot be listened on."""
 
-    def __init__(self, site: Site, inner: Site, journal: Journal, make_manner: Callable[[], Manner] = frame_by_frame) -> None:
-        """It listens on the ports of a site and passes on to those of the controller's, `inner`. `make_manner` makes the manner of a carrier's connection."""
-        self.inner, self.journal, self.make_manner = inner, journal, make_manner
+    def __init__(self, site: Site, inner: Site, kept: Connections, make_manner: Callable[[], Manner] = frame_by_frame) -> None:
+        """It listens on the ports of a site and passes on to those of the controller's, `inner`. `make_manner` makes the manner of a connection."""
+        self.inner, self.kept, self.make_manner = inner, kept, make_manner
         self.selector = selectors.DefaultSelector()
         self.listeners: dict[int, socket.socket] = {}
         self.sides: dict[int, Side] = {}
         # connections of which nothing is passed on any more, and that are open all the same
         self.dead: list[Side] = []
-        for port, carrier in zip(site.ports(), [OPERATORS, *(row["number"] for row in site.rows)], strict=True):
+        for row in site.rows:
+            carrier, port = row["number"], row["port"]
             try:
                 self.listeners[carrier] = socket.create_server((site.address, port))
             except OSError as fault:
@@ -319,19 +277,18 @@ class Relay:
     def accept(self, carrier: int) -> None:
         """Takes the connection that came on a port."""
         listener = self.listeners[carrier]
-        port = self.inner.console_port if carrier == OPERATORS else self.inner.row(carrier)["port"]
+        port = self.inner.row(carrier)["port"]
         try:
             stream, _ = listener.accept()
         except OSError:
             # it was closed again before it was taken
             return
         stream.setsockopt(socket.IPPROTO_TCP, socket.TCP_NODELAY, 1)
-        kind, manner = (OperatorSide, frame_by_frame()) if carrier == OPERATORS else (CarrierSide, self.make_manner())
         try:
-            side = kind(self.journal, carrier, stream, port, manner)
+            side = Side(self.kept, carrier, stream, port, self.make_manner())
         except OSError as fault:
             stream.close()
-            raise ControllerLost(f"the controller takes no connection on port {port}: {fault.strerror or fault}") from fault
+            raise SessionFault(f"the controller takes no connection on port {port}: {fault.strerror or fault}") from fault
         self.selector.unregister(listener)
         self.sides[carrier] = side
         self.selector.register(stream, selectors.EVENT_READ, ("receive", carrier))
@@ -378,7 +335,7 @@ class Relay:
             self.end(carrier)
 
     def close(self) -> None:
-        """Ends all connections, and listens no more. JournalFault: their ends cannot be written."""
+        """Ends all connections, and listens no more."""
         try:
             for carrier in list(self.sides):
                 self.end(carrier)

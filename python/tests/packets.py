@@ -1,29 +1,10 @@
-"""Packet captures for tests, written octet by octet: pcap and pcapng files, link headers, IPv4 and IPv6, and TCP connections."""
+"""Packet captures for tests, written octet by octet: a TCP connection over IPv4 and Ethernet."""
 import struct
 from dataclasses import dataclass
-from enum import Enum
 
 FIN, SYN, RST, PSH, ACK = 1, 2, 4, 8, 16
 CLIENT_SEQUENCE, SERVER_SEQUENCE = 0xFFFFFFF0, 7000
 BEGAN = 1_790_000_000.25
-
-
-class Link(Enum):
-    """A link header: its number in a capture file, and the octets before IPv4 and before IPv6."""
-    ETHERNET = (1, bytes(12) + b"\x08\x00", bytes(12) + b"\x86\xdd")
-    VLAN = (1, bytes(12) + b"\x81\x00\x00\x05\x08\x00", bytes(12) + b"\x81\x00\x00\x05\x86\xdd")
-    COOKED = (113, bytes(14) + b"\x08\x00", bytes(14) + b"\x86\xdd")
-    COOKED_2 = (276, b"\x08\x00" + bytes(18), b"\x86\xdd" + bytes(18))
-    RAW = (101, b"", b"")
-    LOOPBACK = (0, b"\x02\x00\x00\x00", b"\x1e\x00\x00\x00")
-
-    def number(self) -> int:
-        """Its number."""
-        return self.value[0]
-
-    def wrap(self, packet: bytes) -> bytes:
-        """A frame with an IP packet."""
-        return self.value[1 if packet[0] >> 4 == 4 else 2] + packet
 
 
 def ipv4(client: int, to_server: bool, payload: bytes) -> bytes:
@@ -31,13 +12,6 @@ def ipv4(client: int, to_server: bool, payload: bytes) -> bytes:
     ends = bytes([10, 0, 0, client]), bytes([10, 0, 0, 1])
     source, target = ends if to_server else ends[::-1]
     return struct.pack(">BBHHHBBH", 0x46, 0, 24 + len(payload), 0, 0x4000, 64, 6, 0) + source + target + bytes(4) + payload
-
-
-def ipv6(client: int, to_server: bool, payload: bytes) -> bytes:
-    """An IPv6 packet with TCP after a header of options."""
-    ends = b"\xfd" + bytes(14) + bytes([client]), b"\xfd" + bytes(14) + b"\x01"
-    source, target = ends if to_server else ends[::-1]
-    return struct.pack(">IHBB", 0x60000000, 8 + len(payload), 0, 64) + source + target + b"\x06\x00" + bytes(6) + payload
 
 
 def tcp(source: int, target: int, sequence: int, acknowledged: int, flags: int, payload: bytes) -> bytes:
@@ -59,7 +33,6 @@ class Talk:
     port: int
     client: int = 2
     source: int = 40000
-    six: bool = False
     sent: int = 0
     answered: int = 0
 
@@ -68,7 +41,7 @@ class Talk:
         ports = (self.source, self.port) if to_server else (self.port, self.source)
         acknowledged = other + 1 + (self.answered if to_server else self.sent) if flags & ACK else 0
         segment = tcp(*ports, begins + place, acknowledged, flags, payload)
-        self.to.append(Sent(time, (ipv6 if self.six else ipv4)(self.client, to_server, segment)))
+        self.to.append(Sent(time, ipv4(self.client, to_server, segment)))
 
     def open(self, time: float) -> None:
         """The three packets that open it."""
@@ -97,31 +70,10 @@ class Talk:
             self._add(time, False, 1 + self.answered, FIN | ACK, b"")
 
 
-def write_pcap(sent: list[Sent], link: Link = Link.ETHERNET, order: str = "<", nanoseconds: bool = False, most: int = 262144) -> bytes:
-    """A classic file; `most` octets of each packet are kept."""
-    per_second = 10**9 if nanoseconds else 10**6
-    out = struct.pack(f"{order}IHHiIII", 0xA1B23C4D if nanoseconds else 0xA1B2C3D4, 2, 4, 0, 0, most, link.number())
+def write_pcap(sent: list[Sent]) -> bytes:
+    """A classic capture file of frames of Ethernet."""
+    out = struct.pack("<IHHiIII", 0xA1B2C3D4, 2, 4, 0, 0, 262144, 1)
     for it in sent:
-        frame = link.wrap(it.packet)
-        time = round((BEGAN + it.time) * per_second)
-        out += struct.pack(f"{order}IIII", *divmod(time, per_second), len(frame[:most]), len(frame)) + frame[:most]
-    return out
-
-
-def block(order: str, kind: int, body: bytes) -> bytes:
-    """A block of a pcapng file."""
-    body += bytes(-len(body) % 4)
-    length = struct.pack(f"{order}I", 12 + len(body))
-    return struct.pack(f"{order}I", kind) + length + body + length
-
-
-def write_pcapng(sent: list[Sent], link: Link = Link.ETHERNET, order: str = "<", nanoseconds: bool = False) -> bytes:
-    """A pcapng file of one section and two interfaces, of which the second has the packets; a block of another kind is between them."""
-    resolution = struct.pack(f"{order}HHBxxxHH", 9, 1, 9, 0, 0) if nanoseconds else b""
-    out = block(order, 0x0A0D0D0A, struct.pack(f"{order}IHHq", 0x1A2B3C4D, 1, 0, -1))
-    out += block(order, 1, struct.pack(f"{order}HHI", 147, 0, 0)) + block(order, 0x0BAD, b"\1\2\3")
-    out += block(order, 1, struct.pack(f"{order}HHI", link.number(), 0, 0) + resolution)
-    for it in sent:
-        frame, time = link.wrap(it.packet), round((BEGAN + it.time) * (10**9 if nanoseconds else 10**6))
-        out += block(order, 6, struct.pack(f"{order}IIIII", 1, time >> 32, time & 0xFFFFFFFF, len(frame), len(frame)) + frame)
+        frame = bytes(12) + b"\x08\x00" + it.packet
+        out += struct.pack("<IIII", *divmod(round((BEGAN + it.time) * 10**6), 10**6), len(frame), len(frame)) + frame
     return out

@@ -18,7 +18,7 @@ from unittest import mock
 from temzaar.archive import DAY_MS, TIMES, Archive, month_span
 from temzaar.cli import archive, callbook
 from temzaar.records import RecordsFault, opened_records
-from tests.made_records import CALLS, EVENTS, NOON, TABLES, TERMS, add_term, insert, locked, make_records, zone
+from tests.made_records import CALLS, EVENTS, NOON, TERMS, add_term, insert, locked, make_records, zone
 from tests.support import TOP, call_tool, run_tool
 
 HOUR = 3_600_000

@@ -12,16 +12,16 @@ import unittest
 from collections.abc import Callable, Iterator, Sequence
 from typing import NamedTuple
 
-from temzaar.cli import archive, callbook, capture, carriers, check, conform, console, hub, restart, siteview, timeline
+from temzaar.cli import archive, callbook, carriers, check, conform, console, hub, restart, siteview, timeline
 from temzaar.ports import free_ports
 from temzaar.process import connect
 from temzaar.sitefile import FREE_PORTS, Site
 from tests.support import EXAMPLES, TOP, TWO_CARRIERS, call_tool, take_signals, tool_words
 
-MAINS: dict[str, Callable[[list[str]], int]] = {"siteview": siteview.main, "timeline": timeline.main, "callbook": callbook.main, "archive": archive.main, "capture": capture.main, "carriers": carriers.main,
+MAINS: dict[str, Callable[[list[str]], int]] = {"siteview": siteview.main, "timeline": timeline.main, "callbook": callbook.main, "archive": archive.main, "carriers": carriers.main,
                                                  "conform": conform.main, "check": check.main, "restart": restart.main, "hub": hub.main, "console": console.main}
 # The words for `--help` that would do harm, or fail, without it.
-HELP_WORDS = {"capture": "--site {none} --program {none} --out {out}", "check": "{none}", "hub": "--config {none}", "console": "--socket {none} status", "callbook": "--records {none}", "archive": "--records {none} --folder {none}", "restart": "--site {none} --command {none}"}
+HELP_WORDS = {"check": "{none}", "hub": "--config {none}", "console": "--socket {none} status", "callbook": "--records {none}", "archive": "--records {none} --folder {none}", "restart": "--site {none} --command {none}"}
 # Those that do something without words.
 WITHOUT_WORDS = ("hub", "console", "callbook", "archive", "restart")
 FAKE = str(TOP / "python" / "tests" / "fake_controller.py")
@@ -45,16 +45,12 @@ class Case(NamedTuple):
 
 
 DRAW = "--site {site} --script {script} --printed {printed}"
-RECORD = "--program {program} --out {out}"
 CASES = (
     # no controller
     Case("siteview", "--console {free} --once", 1, "cannot connect to the console {free}: Connection refused"),
     Case("siteview", "--site {nobody} --once", 1, "cannot connect to the console"),
     Case("carriers", "--site {nobody} --seconds 1", 1, "carrier 0: cannot connect to {free_carrier}: Connection refused"),
     Case("carriers", "--site {site} --program {none}", 1, "cannot run {none}: No such file or directory"),
-    Case("capture", "--site {site} --program {none} --out {out}", 1, "cannot run {none}: No such file or directory"),
-    Case("capture", "--site {site} --program {folder} --out {out}", 1, "cannot run {folder}: Permission denied"),
-    Case("capture", "--site {nobody} --running --shift 1 " + RECORD, 1, "cannot connect to the console"),
     Case("conform", "--site {nobody} --program {none} -- {none}", 1, "cannot run {none}: No such file or directory"),
     Case("conform", "--site {nobody} --program {program} -- {none}", 1, "cannot run {none}: No such file or directory"),
     Case("timeline", "--site {site} --script {script} --program {none}", 1, "cannot run {none}: No such file or directory"),
@@ -75,25 +71,18 @@ CASES = (
         ("none", "cannot read {none}: No such file or directory"), ("folder", "cannot read {folder}: Is a directory"), ("text", "not TOML"),
         ("octets", "cannot read {octets}: octet 0 is not UTF-8"), ("deep", "not TOML"), ("site", "system: unknown section"), ("zeros", "roles.full_users"))),
     *(Case(tool, f"--site {{{file}}} {more}", 1, f"site file {{{file}}}: {said}")
-      for tool, more in (("siteview", "--once"), ("carriers", "--seconds 1"), ("capture", RECORD), ("conform", "--program {program} -- {none}"), ("timeline", "--script {script} --printed {printed}"))
+      for tool, more in (("siteview", "--once"), ("carriers", "--seconds 1"), ("conform", "--program {program} -- {none}"), ("timeline", "--script {script} --printed {printed}"))
       for file, said in (("none", "No such file or directory"), ("folder", "Is a directory"), ("text", "not TOML"), ("octets", "octet 0 is not UTF-8"), ("wrong", "wrong type console_port"))),
     *(Case("timeline", words, 1, said) for words, said in (
         ("--site {site} --script {none} --printed {printed}", "{none}: No such file or directory"), ("--site {site} --script {folder} --printed {printed}", "{folder}: Is a directory"),
         ("--site {site} --script {text} --printed {printed}", "script line 1"), ("--site {site} --script {octets} --printed {printed}", "{octets}: octet 0 is not UTF-8"),
         ("--site {site} --script {script} --printed {none}", "{none}: No such file or directory"), ("--site {site} --script {script} --printed {folder}", "{folder}: Is a directory"),
         ("--site {site} --script {script} --printed {text}", "the output has no line for carrier 0"), ("--site {site} --script {script} --printed {octets}", "is not UTF-8"))),
-    *(Case("capture", f"--site {{site}} {RECORD} {word} {{{file}}}", 1, said) for word, file, said in (
-        ("--pcap", "none", "{none}: No such file or directory"), ("--pcap", "folder", "{folder}: Is a directory"), ("--pcap", "text", "{text}: not a packet capture"),
-        ("--unfinished", "none", "{none}: No such file or directory"), ("--unfinished", "folder", "{folder}: Is a directory"),
-        ("--unfinished", "text", "{text}: not a recording that was not finished"))),
     # an output that cannot be written
     Case("timeline", DRAW + " --out {folder}", 1, "{folder}: Is a directory"),
     Case("timeline", DRAW + " --out {none}/a.svg", 1, "{none}/a.svg: No such file or directory"),
     Case("timeline", DRAW + " --page 1 --out {none}/a.svg", 1, "{none}/a-001.svg: No such file or directory"),
     Case("timeline", DRAW + " --out /dev/full", 1, "/dev/full: No space left on device"),
-    Case("capture", "--site {site} --program {program} --out {folder}", 1, "{folder}: Is a directory"),
-    Case("capture", "--site {site} --program {program} --out {none}/a", 1, "{none}/a: No such file or directory"),
-    Case("capture", "--site {site} --program {program} --out /dev/full", 1, "/dev/full: not a regular file"),
     # no names
     *(Case(tool, f"{words} --names {{{file}}}", 1, f"{{{file}}}: {said}") for tool, words in (("timeline", DRAW), ("callbook", "--records {none}"))
       for file, said in (("none", "No such file or directory"), ("folder", "Is a directory"), ("octets", "line 1: not kind,number,name, three fields with commas between them; no line of the file is right"))),
@@ -106,7 +95,6 @@ CASES = (
         ("--seconds -1", "not a number above 0"), ("--seconds nan", "not a number above 0"), ("--radios 0", "not a whole number from 1"), ("--carriers 17", "not a whole number from 1 to 16"),
         ("--port 65530", "not a whole number from 1"), ("--polls x", "not a whole number from 0"), ("--link-version 3", "invalid choice"), ("--faults", "--faults needs --program"))),
     *(Case("timeline", f"{DRAW} {words}", 2, said) for words, said in (("--page x", "not a number above 0"), ("--calls x", "invalid choice"), ("--page 1", "--page needs --out"))),
-    *(Case("capture", f"--site {{site}} {RECORD} {words}", 2, said) for words, said in (("--shift x", "not a whole number from 1"), ("--seconds 0", "not a number above 0"))),
     *(Case("conform", f"--site {{site}} --program {{program}} {words}", 2, said) for words, said in (("--row x", "invalid choice"), ("--wait 0", "not a number above 0"))),
     *(Case("check", words, 2, said) for words, said in (("--link-version 3 {site}", "invalid choice"), ("{site} {site}", "unrecognized arguments"))),
     *(Case("callbook", words, 2, said) for words, said in (("--radio x", "not a whole number from 1"), ("--format xml", "invalid choice"), ("site.db", "unrecognized arguments"))),
@@ -118,7 +106,6 @@ CASES = (
     Case("siteview", "--site {site}", 1, "no terminal: give --once"),
     Case("siteview", "--console " + 64 * "a" + ":7100 --once", 1, "cannot connect to the console"),
     Case("carriers", "--site {nobody} --pid 4194303", 1, "/proc/4194303/stat: No such file or directory"),
-    Case("capture", "--site {site} --shift 60000 " + RECORD, 1, "--shift 60000 is too much for port 7102: ports end at 65535"),
 )
 
 
@@ -213,7 +200,7 @@ class Ended(unittest.TestCase):
         self.addCleanup(consoles.close)
         for words, status in ((("timeline", "--site", TWO_CARRIERS, "--script", str(SCRIPT), "--printed", str(PRINTED)), -signal.SIGPIPE),
                               (("siteview", "--console", consoles.place, "--once"), -signal.SIGPIPE),
-                              (("console", "--tcp", consoles.place, "status"), -signal.SIGPIPE), (("check", "--no-controller", TWO_CARRIERS), -signal.SIGPIPE), (("capture", "--help"), 0)):
+                              (("console", "--tcp", consoles.place, "status"), -signal.SIGPIPE), (("check", "--no-controller", TWO_CARRIERS), -signal.SIGPIPE)):
             with self.subTest(words[0]):
                 reader, writer = os.pipe()
                 os.close(reader)

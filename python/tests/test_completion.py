@@ -8,7 +8,7 @@ import unittest
 TOP = pathlib.Path(__file__).resolve().parent.parent.parent
 FILE = TOP / "deploy" / "completion" / "dmr.bash"
 MANUAL = TOP / "deploy" / "man"
-COMMANDS = ("dmr_trunk", "dmr_decode", "dmr_siteview", "dmr_timeline", "dmr_callbook", "dmr_archive", "dmr_capture", "dmr_carriers", "dmr_conform", "dmr_check", "dmr_restart", "dmr_hub", "dmr_console")
+COMMANDS = ("dmr_trunk", "dmr_decode", "dmr_siteview", "dmr_timeline", "dmr_callbook", "dmr_archive", "dmr_carriers", "dmr_conform", "dmr_check", "dmr_restart", "dmr_hub", "dmr_console")
 
 
 def completed(words: list[str], within: pathlib.Path = TOP) -> list[str]:

@@ -13,7 +13,7 @@ from tests.test_messages import as_pattern, messages
 
 MAN = TOP / "deploy" / "man"
 PAGES = sorted(it.name for it in MAN.iterdir())
-TOOLS = ("siteview", "timeline", "callbook", "archive", "capture", "carriers", "conform", "check", "restart", "console", "hub")
+TOOLS = ("siteview", "timeline", "callbook", "archive", "carriers", "conform", "check", "restart", "console", "hub")
 PAGE_OF = {tool: f"dmr_{tool}.{8 if tool in ('hub', 'archive', 'restart') else 1}" for tool in TOOLS}
 WANTED = {"dmr_trunk.8", "dmr_trunk.5", "dmr_decode.1", *PAGE_OF.values()}
 # The order of sections; a page leaves out those that do not apply.

@@ -18,7 +18,7 @@ import xml.etree.ElementTree
 from collections.abc import Callable
 from unittest import mock
 
-from temzaar.cli import callbook, capture, carriers, check, console, hub, siteview, timeline
+from temzaar.cli import callbook, carriers, check, console, hub, siteview, timeline
 from temzaar.cli.command import print_note
 from temzaar.frames import FROM_CARRIER, POLL, Cutter, hello
 from temzaar.hub import notes
@@ -108,8 +108,7 @@ class Words(unittest.TestCase):
     def test_an_empty_word_is_not_taken_for_no_option(self) -> None:
         none = "/nowhere"
         cases: tuple[tuple[Callable[[list[str]], int], tuple[str, ...]], ...] = (
-            (carriers.main, ("--site", none, "--program", "")), (capture.main, ("--site", none, "--program", none, "--out", none, "--pcap", "")),
-            (capture.main, ("--site", none, "--program", none, "--out", none, "--unfinished", "")), (console.main, ("--socket", "", "status")),
+            (carriers.main, ("--site", none, "--program", "")), (console.main, ("--socket", "", "status")),
             (timeline.main, ("--site", none, "--script", none, "--program", "")), (timeline.main, ("--records", "")), (callbook.main, ("--records", "")),
             (siteview.main, ("--hub", "", "--once")), (hub.main, ("--records", "")), (hub.main, ("--config=",)), (check.main, ("--controller", "", TWO_CARRIERS)))
         for main, words in cases:

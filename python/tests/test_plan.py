@@ -5,7 +5,6 @@ import json
 import math
 import random
 import re
-import tomllib
 import unittest
 from collections.abc import Iterator
 from statistics import fmean, stdev

@@ -1,21 +1,17 @@
 """The commands over a controller that is served on loopback. All of it is skipped if the program was not built."""
 import os
-import random
-import signal
 import socket
 import subprocess
 import tempfile
 import threading
-import time
 import unittest
 
-from temzaar import code, pdus
-from temzaar.frames import DONE, POLL, TO_CARRIER, Cutter, FrameType, Link, active, hello, welcome
-from temzaar.ports import free_ports
-from temzaar.process import Controller, connect, replay
-from temzaar.script import Input, read_printed, read_script
+from temzaar import code
+from temzaar.frames import DONE, POLL, TO_CARRIER, Cutter, FrameType, Link, hello, welcome
+from temzaar.process import Controller, connect
+from temzaar.script import Input, read_script
 from temzaar.sitefile import FREE_PORTS, Row, Site
-from tests.support import EXAMPLES, SITES, TOP, TWO_CARRIERS, program, run_tool, tool_words
+from tests.support import EXAMPLES, SITES, TOP, TWO_CARRIERS, program, run_tool
 
 # what siteview shows once the first 19 inputs of queued_call.txt have come: three calls, and a request that waits
 SHOWN = """\
@@ -162,54 +158,6 @@ class Played(unittest.TestCase):
         self.assertGreater(len(cleared), 2)
 
 
-class Relay:
-    """Passes connections on to ports that are `shift` higher, what comes from a carrier up to `latest` seconds late."""
-
-    def __init__(self, ports: list[int], shift: int, latest: float, seed: int) -> None:
-        self.random, self.shift, self.latest, self.ends = random.Random(seed), shift, latest, False
-        self.listeners = [socket.create_server(("127.0.0.1", port)) for port in ports]
-        self.threads = [threading.Thread(target=self.listen, args=served, daemon=True) for served in zip(self.listeners, ports, strict=True)]
-        for thread in self.threads:
-            thread.start()
-
-    def listen(self, listener: socket.socket, port: int) -> None:
-        """Serves one connection after another."""
-        while not self.ends:
-            try:
-                below, _ = listener.accept()
-            except OSError:
-                return
-            above = connect("127.0.0.1", port + self.shift)
-            above.settimeout(None)
-            below.setsockopt(socket.IPPROTO_TCP, socket.TCP_NODELAY, 1)
-            other = threading.Thread(target=self.pass_on, args=(above, below, 0.0), daemon=True)
-            other.start()
-            self.pass_on(below, above, self.latest)
-            other.join(5)
-            below.close()
-            above.close()
-
-    def pass_on(self, source: socket.socket, target: socket.socket, latest: float) -> None:
-        """Passes one direction on, to its end."""
-        try:
-            while piece := source.recv(65536):
-                time.sleep(self.random.uniform(0.0, latest))
-                target.sendall(piece)
-            target.shutdown(socket.SHUT_WR)
-        except OSError:
-            pass
-
-    def close(self) -> None:
-        """Listens no more, and waits until nothing holds the ports."""
-        self.ends = True
-        for listener, thread in zip(self.listeners, self.threads, strict=True):
-            # (a listener that is closed while a thread waits for a connection holds its port for as long as that thread waits)
-            listener.shutdown(socket.SHUT_RDWR)
-            thread.join(10)
-            assert not thread.is_alive(), f"{listener} is still served"
-            listener.close()
-
-
 class Carrier:
     """A carrier that polls, and what it received."""
 
@@ -230,83 +178,3 @@ class Carrier:
         self.received += answer
         bursts = [self.link.take_tx(frame) for frame in self.cutter.feed(answer) if frame.kind == FrameType.TX]
         return [code.octets_of(burst.word) or b"" for burst in bursts if burst]
-
-
-class Captured(unittest.TestCase):
-    """The script of a session that capture records is what went over its ports. `test_ticks` tests how well it finds ticks, on sessions that are the same each time."""
-
-    TICK_MS, HANG, SHIFT = 10, 4, 3
-
-    def talk(self, site: Site, seconds: float, seed: int) -> list[Carrier]:
-        """Carriers and radios: calls to all talkgroups again and again. The control carrier speaks version 2 of the link, the other version 1."""
-        draws = random.Random(seed)
-        carriers = [Carrier(row, 2 if row["number"] == site.control else 1) for row in site.rows]
-        control = next(carrier for carrier in carriers if carrier.number == site.control)
-        radios = site.radios(8)
-        for radio in radios:
-            control.ask(control.link.rx(0, code.burst_of(pdus.random_access(pdus.REGISTRATION, site.plan["regi"], radio, site.register_options()))) + POLL)
-        ends = time.monotonic() + seconds
-        while time.monotonic() < ends:
-            for carrier in carriers:
-                octets = b"".join(active(slot) for slot in (0, 1) if draws.random() < 0.15)
-                if carrier is control and draws.random() < 0.6:
-                    octets += control.link.rx(0, code.burst_of(pdus.random_access(pdus.TALKGROUP_VOICE, draws.choice(site.plan["groups"]), draws.choice(radios))))
-                carrier.ask(octets + POLL)
-            time.sleep(draws.uniform(0.0, 0.01))
-        for carrier in carriers:
-            carrier.stream.close()
-        return carriers
-
-    def test_late_pieces(self) -> None:
-        """A controller with ticks of 10 ms, and a relay before it, so that the site takes pieces at other ticks than their times say."""
-        built, changes = program("dmr_trunk"), {"tick_ms": self.TICK_MS, "hang": self.HANG, "link_version": 2}
-        first = free_ports(3 * self.SHIFT)
-        site, above = (Site(TWO_CARRIERS, first_port=it, **changes) for it in (first, first + 2 * self.SHIFT))
-        with tempfile.TemporaryDirectory() as folder, Controller(built, above) as controller:
-            path, out = os.path.join(folder, "site.toml"), os.path.join(folder, "incident.txt")
-            with open(path, "w", encoding="utf-8") as it:
-                it.write(site.text())
-            controller.wait_until_served()
-            relay = Relay([site.console_port + self.SHIFT + n for n in range(len(site.rows) + 1)], self.SHIFT, 1.5 * self.TICK_MS / 1000, 1)
-            self.addCleanup(relay.close)
-            words = tool_words("capture", "--site", path, "--program", built, "--running", "--shift", str(self.SHIFT), "--out", out)
-            with subprocess.Popen(words, stdout=subprocess.PIPE, stderr=subprocess.PIPE, text=True) as capture:
-                self.addCleanup(capture.kill)
-                assert capture.stderr
-                self.assertIn("listening", capture.stderr.readline())
-                carriers = self.talk(site, 2.0, 1)
-                capture.send_signal(signal.SIGINT)
-                said, faults = capture.communicate(timeout=300)
-            self.assertIn(capture.returncode, (0, 3), said + faults)
-            if capture.returncode == 3:
-                self.assertIn("3000 placings were replayed, and no more are", said)
-            with open(out, encoding="utf-8") as script, open(out + ".out", encoding="utf-8") as printed:
-                told, _ = read_printed(printed.read())
-                replayed = replay(built, path, script.read())
-            self.assertEqual({carrier.number: carrier.received for carrier in carriers}, told)
-            if capture.returncode == 0:
-                self.assertEqual(read_printed(replayed)[0], told)
-
-    def test_an_incident(self) -> None:
-        """Carriers that are killed while calls are active, others of version 1 after them, and an operator: captured, and replayed."""
-        built = program("dmr_trunk")
-        with tempfile.TemporaryDirectory() as folder:
-            site, path = Site(TWO_CARRIERS, first_port=free_ports(2 * self.SHIFT), link_version=2), os.path.join(folder, "site.toml")
-            with open(path, "w", encoding="utf-8") as it:
-                it.write(site.text())
-            with subprocess.Popen(tool_words("capture", "--site", path, "--program", built, "--shift", str(self.SHIFT), "--out", f"{folder}/incident.txt"), stdout=subprocess.PIPE, stderr=subprocess.PIPE, text=True) as capture:
-                self.addCleanup(capture.kill)
-                assert capture.stderr
-                self.assertIn("listening", capture.stderr.readline())
-                play = tool_words("carriers", "--site", path, "--radios", "12", "--seconds")
-                with subprocess.Popen([*play, "30"], stdout=subprocess.DEVNULL) as first:
-                    time.sleep(4)
-                    first.kill()
-                with subprocess.Popen([*play, "5", "--seed", "2", "--link-version", "1"], stdout=subprocess.DEVNULL):
-                    time.sleep(3)
-                    with connect("127.0.0.1", site.console_port) as console:
-                        console.sendall(b"status\nend 1 0\nslots\n")
-                        time.sleep(0.5)
-                capture.send_signal(signal.SIGINT)
-                said, faults = capture.communicate(timeout=300)
-            self.assertEqual(capture.returncode, 0, said + faults)

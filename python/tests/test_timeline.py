@@ -216,11 +216,6 @@ class Pictures(unittest.TestCase):
         self.assertIn("tick 100 (10:15:06.000): P_CLEAR", svg)
         self.assertNotIn(">time</text>", run_example("queued_call").stdout)
 
-    def test_the_start_that_a_recorded_script_has(self) -> None:
-        script, printed = played([CALLED, Turn("tick 50\n", ALOHA)])
-        session = read_session(Site(TWO_CARRIERS).plan, "# Began at 2026-11-26 10:15:00.250\n" + script, printed)
-        self.assertEqual(session.clock.full_time(50), "2026-11-26T10:15:03.250")
-
     def test_pages_are_files(self) -> None:
         with tempfile.TemporaryDirectory() as folder:
             done = run_example("queued_call", "--page", "0.05", "--start", "10:15", "--out", os.path.join(folder, "a.svg"))

@@ -17,7 +17,7 @@ grant to its P_CLEAR, or to the loss of its carrier. If no grant was sent before
 - an operator's lines, on a row of their own
 
 A legend below the rows has them all. Point at a mark to read what it is. Ticks are drawn to one scale; what comes within a tick is spread out, in its
-order. With --start, or if the script was recorded by `capture`, clock times are above the ticks, and --from and --to take them.
+order. With --start, clock times are above the ticks, and --from and --to take them.
 
 The list of calls has for each when it began and ended, its carrier and slot, its kind, source and target. It also has how long the call waited for a
 slot, and why it ended: that follows from the site file and the script.
@@ -41,7 +41,7 @@ from typing import Any
 from temzaar.calls import list_calls
 from temzaar.callsheet import ListFormat, calls_in, write_list
 from temzaar.cli.command import add_names_option, amount_above, clean_up_on_signals, names_of_words, parse_words, run_command
-from temzaar.clock import Clock, Window, recorded_start
+from temzaar.clock import Clock, Window
 from temzaar.drawing import Drawing, Session
 from temzaar.faults import read_text, write_text
 from temzaar.moments import join_times
@@ -61,7 +61,7 @@ def read_session(plan: dict[str, Any], script: str, printed: str, start: str | N
             raise SessionFault(f"the output has no line for carrier {row['number']}: it is not that of a replay over this site file")
     if not told and not any(carriers.values()):
         raise SessionFault("the replay of the script sent nothing, to no carrier and to no operator: there is nothing to draw")
-    clock = Clock(plan["tick_ms"], start if start is not None else recorded_start(script))
+    clock = Clock(plan["tick_ms"], start)
     return Session(plan, inputs, Replay(inputs, carriers).events, clock)
 
 

@@ -97,8 +97,16 @@ def table_of(section: str, header: str) -> list[list[str]]:
     return [[cell.strip() for cell in row.strip("|").split("|")] for row in found[1].splitlines()] if found else []
 
 
+def lemma_files(crate: pathlib.Path) -> Iterator[tuple[str, str]]:
+    """The lemma files of a crate in the order of its proofs/Lib.antt, each with its first comment; empty if it has none, or is not there."""
+    for name in re.findall(r"\bmod (\w+)", (crate / "proofs/Lib.antt").read_text(encoding="utf-8")):
+        path = crate / f"proofs/{name}.antt"
+        comment = re.match(r"(?:--.*\n)*", path.read_text(encoding="utf-8") if path.is_file() else "")
+        yield name, " ".join(line.removeprefix("--").strip() for line in (comment[0] if comment else "").splitlines())
+
+
 def proof_faults() -> Iterator[str]:
-    """The names in docs/PROOFS.md that the crate of their section does not have, and the tables that differ from the crate's proofs."""
+    """The names in docs/PROOFS.md that the crate of their section does not have, the lemmas that their file does not state, and lemma files without a comment."""
     crates = all_sources()
     # a name: a word, or words joined, or a file or folder within a crate
     looks_like_name = re.compile(r"[^\W\d][\w'-]*(?:(?:::|\.)[^\W\d][\w'-]*)*/?|[\w./-]+\.(?:rt|antt)")
@@ -113,10 +121,9 @@ def proof_faults() -> Iterator[str]:
         if not heading:
             continue
         for names, where, *_ in table_of(section, "lemma"):
-            stated = set().union(*(lemmas_of(path) for path in own[0].named(where.strip("`"))))
+            stated = set().union(*(lemmas_of(path) for path in own[0].named(f"proofs/{where.strip('`')}.antt")))
             if lacking := [name for name in re.findall(r"`([^`]+)`", names) if name not in stated]:
                 yield f"docs/PROOFS.md: {crate}: {where} does not have {', '.join(lacking)}"
-        said = [name for row in table_of(section, "file") for name in re.findall(r"`([^`]+)`", row[0])]
-        listed = re.findall(r"\bmod (\w+)", (own[0].crate / "proofs/Lib.antt").read_text(encoding="utf-8"))
-        if said != listed:
-            yield f"docs/PROOFS.md: {crate}: the map is not that of proofs/Lib.antt: it has {[it for it in said if it not in listed]}, lacks {[it for it in listed if it not in said]}, or has another order"
+        for name, comment in lemma_files(own[0].crate):
+            if not comment:
+                yield f"{crate}: proofs/{name}.antt does not say in its first comment what it is for"

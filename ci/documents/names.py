@@ -29,6 +29,21 @@ def static_faults(document: pathlib.Path) -> Iterator[str]:
     for link in sorted(set(re.findall(r"\]\(([^)#:]+)\)", text))):
         if not (document.parent / link).exists():
             yield f"{name}: the link {link} leads nowhere"
+    for link, heading in sorted(set(re.findall(r"\]\(((?:[^)#:]+\.md)?)#([^)]+)\)", text))):
+        target = document.parent / link if link else document
+        if not target.is_file() or heading not in anchors_of(target):
+            yield f"{name}: the link {link}#{heading} leads to no heading"
+
+
+@functools.cache
+def anchors_of(document: pathlib.Path) -> set[str]:
+    """The anchors of a document's headings, as GitHub makes them."""
+    anchors: list[str] = []
+    for heading in re.findall(r"^#+ (.*)", re.sub(r"^```.*?^```$", "", document.read_text(encoding="utf-8"), flags=re.M | re.S), re.M):
+        words = re.sub(r"\[([^\]]*)\]\([^)]*\)", r"\1", heading).lower()
+        anchor = re.sub(r"[^\w\- ]", "", words).replace(" ", "-")
+        anchors.append(f"{anchor}-{anchors.count(anchor)}" if anchor in anchors else anchor)
+    return set(anchors)
 
 
 class Sources:

@@ -5,7 +5,8 @@ from collections.abc import Iterator
 from typing import NamedTuple
 
 TOP = pathlib.Path(__file__).resolve().parent.parent.parent
-DOCUMENTS = sorted([*TOP.glob("*.md"), *TOP.glob("docs/*.md"), *TOP.glob("python/*.md"), *TOP.glob("cases/*.md"), *TOP.glob("bench/*.md"), *TOP.glob("station/*.md")])
+DOCUMENTS = sorted([*TOP.glob("*.md"), *TOP.glob("docs/*.md"), *TOP.glob("python/*.md"), *TOP.glob("cases/*.md"), *TOP.glob("bench/*.md"), *TOP.glob("reference/*.md"),
+                    *TOP.glob("station/*.md")])
 
 
 class Block(NamedTuple):

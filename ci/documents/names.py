@@ -29,6 +29,21 @@ def static_faults(document: pathlib.Path) -> Iterator[str]:
     for link in sorted(set(re.findall(r"\]\(([^)#:]+)\)", text))):
         if not (document.parent / link).exists():
             yield f"{name}: the link {link} leads nowhere"
+    for link, heading in sorted(set(re.findall(r"\]\(((?:[^)#:]+\.md)?)#([^)]+)\)", text))):
+        target = document.parent / link if link else document
+        if not target.is_file() or heading not in anchors_of(target):
+            yield f"{name}: the link {link}#{heading} leads to no heading"
+
+
+@functools.cache
+def anchors_of(document: pathlib.Path) -> set[str]:
+    """The anchors of a document's headings, as GitHub makes them."""
+    anchors: list[str] = []
+    for heading in re.findall(r"^#+ (.*)", re.sub(r"^```.*?^```$", "", document.read_text(encoding="utf-8"), flags=re.M | re.S), re.M):
+        words = re.sub(r"\[([^\]]*)\]\([^)]*\)", r"\1", heading).lower()
+        anchor = re.sub(r"[^\w\- ]", "", words).replace(" ", "-")
+        anchors.append(f"{anchor}-{anchors.count(anchor)}" if anchor in anchors else anchor)
+    return set(anchors)
 
 
 class Sources:
@@ -97,8 +112,16 @@ def table_of(section: str, header: str) -> list[list[str]]:
     return [[cell.strip() for cell in row.strip("|").split("|")] for row in found[1].splitlines()] if found else []
 
 
+def lemma_files(crate: pathlib.Path) -> Iterator[tuple[str, str]]:
+    """The lemma files of a crate in the order of its proofs/Lib.antt, each with its first comment; empty if it has none, or is not there."""
+    for name in re.findall(r"\bmod (\w+)", (crate / "proofs/Lib.antt").read_text(encoding="utf-8")):
+        path = crate / f"proofs/{name}.antt"
+        comment = re.match(r"(?:--.*\n)*", path.read_text(encoding="utf-8") if path.is_file() else "")
+        yield name, " ".join(line.removeprefix("--").strip() for line in (comment[0] if comment else "").splitlines())
+
+
 def proof_faults() -> Iterator[str]:
-    """The names in docs/PROOFS.md that the crate of their section does not have, and the tables that differ from the crate's proofs."""
+    """The names in docs/PROOFS.md that the crate of their section does not have, the lemmas that their file does not state, and lemma files without a comment."""
     crates = all_sources()
     # a name: a word, or words joined, or a file or folder within a crate
     looks_like_name = re.compile(r"[^\W\d][\w'-]*(?:(?:::|\.)[^\W\d][\w'-]*)*/?|[\w./-]+\.(?:rt|antt)")
@@ -113,10 +136,9 @@ def proof_faults() -> Iterator[str]:
         if not heading:
             continue
         for names, where, *_ in table_of(section, "lemma"):
-            stated = set().union(*(lemmas_of(path) for path in own[0].named(where.strip("`"))))
+            stated = set().union(*(lemmas_of(path) for path in own[0].named(f"proofs/{where.strip('`')}.antt")))
             if lacking := [name for name in re.findall(r"`([^`]+)`", names) if name not in stated]:
                 yield f"docs/PROOFS.md: {crate}: {where} does not have {', '.join(lacking)}"
-        said = [name for row in table_of(section, "file") for name in re.findall(r"`([^`]+)`", row[0])]
-        listed = re.findall(r"\bmod (\w+)", (own[0].crate / "proofs/Lib.antt").read_text(encoding="utf-8"))
-        if said != listed:
-            yield f"docs/PROOFS.md: {crate}: the map is not that of proofs/Lib.antt: it has {[it for it in said if it not in listed]}, lacks {[it for it in listed if it not in said]}, or has another order"
+        for name, comment in lemma_files(own[0].crate):
+            if not comment:
+                yield f"{crate}: proofs/{name}.antt does not say in its first comment what it is for"

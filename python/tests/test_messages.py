@@ -1,4 +1,5 @@
-"""docs/OPERATING.md has each note, cause and message of the controller, and none that its sources do not have. Those of a recording are in docs/INCIDENTS.md."""
+"""docs/OPERATING.md has each note, cause and message of the controller, and none that its sources do not have. Those of a recording are in
+docs/INCIDENTS.md, and those of records in docs/RECORDS.md."""
 import re
 import unittest
 
@@ -116,7 +117,7 @@ class Messages(unittest.TestCase):
         self.compare(column_of("## Notes", 1), [it for it in notes() if not it.startswith((RECORDS, RECORDING))])
 
     def test_notes_of_records(self) -> None:
-        self.compare(column_of("### When records cannot be written", 0), [it for it in notes() if it.startswith(RECORDS)])
+        self.compare(column_of("## When records cannot be written", 0, read_document("RECORDS.md")), [it for it in notes() if it.startswith(RECORDS)])
 
     def test_notes_of_the_recording(self) -> None:
         self.assertEqual([it for it in notes() if it.startswith(RECORDING)], ["recording: ended: {fault}"])

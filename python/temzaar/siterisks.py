@@ -211,7 +211,7 @@ class Finder:
             return
         if address.is_unspecified:
             yield self.risk("open-address", ("address",), "the ports are open on every network of the machine, and a peer that reaches the console is an operator",
-                            "name one address, or keep strangers away with a firewall (OPERATING, \"Security\")")
+                            "name one address, or keep strangers away with a firewall (SECURITY, \"What to do\")")
         elif address.is_multicast or address == ipaddress.IPv4Address("255.255.255.255") or not self.around.has_address(address):
             yield self.risk("foreign-address", ("address",), f"no interface of this machine has the address {address}: the controller ends with `cannot listen on port`",
                             "`ip -4 address` lists the addresses; if the file is for another machine, check it there")

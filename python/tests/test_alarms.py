@@ -98,8 +98,8 @@ class Rules(unittest.TestCase):
         headings = re.findall(r"^### (\w+)$", ALARMS, re.M)
         self.assertEqual(len(headings), len(set(headings)))
         self.assertEqual(set(headings), set(alerts()))
-        rows = {row[0]: row[1] for row in table_rows(ALARMS, "| alarm | severity")}
-        self.assertEqual(rows, {name: keys["severity"] for name, keys in alerts().items()})
+        severities = dict(re.findall(r"^### (\w+)\n\*\*(\w+)\*\*: ", ALARMS, re.M))
+        self.assertEqual(severities, {name: keys["severity"] for name, keys in alerts().items()})
         for name in alerts():
             text = re.split(r"^#", ALARMS[ALARMS.index(f"### {name}\n") + 4:], maxsplit=1, flags=re.M)[0]
             self.assertGreater(len(text.split()), 30, name)

@@ -91,7 +91,8 @@ class Risks(unittest.TestCase):
 
     def test_every_name_is_tried_and_documented(self) -> None:
         page = read_page("OPERATING.md")
-        documented = re.findall(r"^\| `([a-z-]+)` \|", page[page.index("### Check, then restart"):page.index("## Start")], re.M)
+        rows = re.findall(r"^\|.*", page[page.index("### Check, then restart"):page.index("## Start")], re.M)
+        documented = re.findall(r"`([a-z]+(?:-[a-z]+)+)`", "\n".join(rows))
         self.assertEqual(sorted(documented), sorted({name for _, _, name, *_ in CHANGES} | {"old-link"}))
 
     def test_the_examples(self) -> None:

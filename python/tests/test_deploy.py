@@ -114,7 +114,7 @@ class Examples(unittest.TestCase):
                 self.assertTrue(any(ipaddress.ip_address(word) in it for it in NETWORKS), f"{path.name}: {word}")
 
     def test_documents_name_each(self) -> None:
-        document = read_document("OPERATING.md")
+        document = read_document("SECURITY.md")
         for path in examples():
             self.assertIn(f"`{path.parent.name}/", document)
             self.assertTrue(path.name in document or path.name in LOADED_WITH_PROFILE, path.name)

@@ -1,10 +1,11 @@
-"""docs/OPERATING.md has each note, cause and message of the controller, and none that its sources do not have."""
+"""docs/OPERATING.md has each note, cause and message of the controller, and none that its sources do not have. Those of a recording are in
+docs/INCIDENTS.md, and those of records in docs/RECORDS.md."""
 import re
 import unittest
 
 from tests.support import TOP, read_document, table_rows
 
-OPERATING = read_document("OPERATING.md")
+OPERATING, INCIDENTS = read_document("OPERATING.md"), read_document("INCIDENTS.md")
 CRATES = TOP / "crates"
 # The place of a value: in the sources a format's braces, in the document a word in upper case.
 HOLE = r"\{[\w.]*\}"
@@ -94,9 +95,9 @@ def messages() -> list[str]:
     return [*dict.fromkeys(PROGRAM + it for it in texts), *words, *environment, *(it.replace("{STATE_DIRECTORY}", variables[0]) for it in more)]
 
 
-def column_of(heading: str, column: int) -> list[str]:
+def column_of(heading: str, column: int, document: str = OPERATING) -> list[str]:
     """The cells of a column in the table after a heading."""
-    return [row[column] for row in table_rows(OPERATING, heading)]
+    return [row[column] for row in table_rows(document, heading)]
 
 
 class Messages(unittest.TestCase):
@@ -116,12 +117,12 @@ class Messages(unittest.TestCase):
         self.compare(column_of("## Notes", 1), [it for it in notes() if not it.startswith((RECORDS, RECORDING))])
 
     def test_notes_of_records(self) -> None:
-        self.compare(column_of("### When records cannot be written", 0), [it for it in notes() if it.startswith(RECORDS)])
+        self.compare(column_of("## When records cannot be written", 0, read_document("RECORDS.md")), [it for it in notes() if it.startswith(RECORDS)])
 
     def test_notes_of_the_recording(self) -> None:
         self.assertEqual([it for it in notes() if it.startswith(RECORDING)], ["recording: ended: {fault}"])
         faults = literals(source("dmr_trunk/src/script.rt"), r"#\[error\(")
-        documented = column_of("### By the controller itself", 0)
+        documented = column_of("### By the controller itself", 0, INCIDENTS)
         self.assertEqual(documented, [*faults, "event N ..", "out of memory"])
 
     def test_levels(self) -> None:

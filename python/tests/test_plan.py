@@ -148,21 +148,21 @@ class Advice(unittest.TestCase):
 
     def test_each(self) -> None:
         """Their carriers are those of the plan, their times those of the ticks, and they have no risk."""
-        part = self.PAGE[self.PAGE.index("### Three sites to begin with"):self.PAGE.index("## Messages")]
-        numbers = {"three": 3, "four": 4, "five": 5}
-        found = re.findall(r"\*\*(A .*?)\.\*\* ([\d,]+) radios[\w ]*? with (\w+) calls an hour of (\d+) seconds", part.replace("\n", " "))
-        self.assertEqual(len(found), 3)
-        for name, radios, calls, seconds in found:
+        rows = {row[0]: row for row in table_rows(self.PAGE, "### Three sites to begin with")}
+        self.assertEqual(len(rows), 8)
+        for column, name in enumerate(("a small utility", "a bus company", "a busy city"), 1):
             with self.subTest(name):
-                rows = {row[0]: row for row in table_rows(part, f"**{name}")}
-                plan = Plan.of(Demand(int(radios.replace(",", "")), numbers[calls], int(seconds), 5, 0.05))
+                calls, seconds = map(int, re.fullmatch(r"(\d+) of (\d+) s", rows["calls an hour, each"][column]).groups())  # type: ignore[union-attr]
+                plan = Plan.of(Demand(int(rows["radios"][column].replace(",", "")), calls, seconds, 5, 0.05))
                 assert plan.chosen
-                self.assertEqual(rows["carriers"][1:3], [str(plan.chosen.carriers), f"{plan.chosen.slots} slots"])
-                self.assertIn(f"{plan.demand.erlang:.1f}".removesuffix(".0") + " Erlang", rows["carriers"][3])
-                self.expect_no_risk({key: rows[key][1] for key in ("hang", "maximum", "ahoy_wait", "silence")} | dict(zip(("backoff_low", "backoff_high"), rows["backoff_low, backoff_high"][1].split(", "))))
+                self.assertEqual(rows["carriers"][column], f"{plan.chosen.carriers}: {plan.chosen.slots} slots")
+                erlang = re.findall(r"[\d.]+", rows["calls an hour, each"][4])[column - 1]
+                self.assertEqual(erlang, f"{plan.demand.erlang:.1f}".removesuffix(".0"))
+                values = {key: rows[key][column].partition(":")[0] for key in ("hang", "maximum", "ahoy_wait", "silence")}
+                self.expect_no_risk(values | dict(zip(("backoff_low", "backoff_high"), rows["backoff_low, backoff_high"][column].split(", "))))
                 for key, unit in (("hang", 60), ("maximum", 60), ("ahoy_wait", 60), ("silence", 100)):
-                    number, name_of_unit = rows[key][2].split()
-                    self.assertAlmostEqual(int(rows[key][1]) * unit / {"ms": 1, "s": 1000, "min": 60_000}[name_of_unit], float(number), delta=0.05)
+                    number, name_of_unit = rows[key][column].partition(": ")[2].split()
+                    self.assertAlmostEqual(int(values[key]) * unit / {"ms": 1, "s": 1000, "min": 60_000}[name_of_unit], float(number), delta=0.05)
 
     def expect_no_risk(self, values: dict[str, str]) -> None:
         """A site file with these values has no fault and no risk."""

@@ -75,7 +75,7 @@ class Documented(unittest.TestCase):
 
     def test_columns(self) -> None:
         for table in TABLES:
-            listed = [row[:2] for row in table_rows(self.document, f"`{table}` has")]
+            listed = [[name, "TEXT" if row[1].startswith("TEXT: ") else "INTEGER"] for row in table_rows(self.document, f"`{table}` has") for name in row[0].split(", ")]
             made = self.conn.execute(f"PRAGMA table_info({table})")
             self.assertEqual(listed, [[it[1], it[2]] for it in made], table)
 

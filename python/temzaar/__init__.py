@@ -12,10 +12,8 @@ comparison of the two means something. One module per subject, lowest first:
     pdus        the PDUs: one table of layouts, read in both directions
     frames      the frames of the link in both versions: one cutter for both directions
     sitefile    the site file, as far as the tools need it
-    tomltext    the places of keys and values in a TOML text
-    tomldocument  a TOML document, values and places together
     sitekeys    the keys of the site file: the tables of docs/SITE_FILE.md
-    sitefaults  the faults of a site file, in the order in which the controller judges
+    sitetext    the text of a site file: its values, and the lines of its keys
     sitefigures  what a site file amounts to: times in seconds, and counts
     siterisks   what is risky in a site file
     namerisks   what is risky in a file of names

@@ -4,8 +4,8 @@ from collections.abc import Iterator, Mapping
 from dataclasses import dataclass
 from typing import Any
 
-from temzaar.sitefaults import is_number, is_pair
 from temzaar.sitekeys import CARRIER_KEYS, KEYS, SITE_KEYS, WAIT_MS, Content, SiteKey, Unit
+from temzaar.sitetext import is_number, is_pair
 
 # A base station polls once in a TDMA frame (docs/LINK.md, "Timing").
 POLL_MS = 60

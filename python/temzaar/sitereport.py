@@ -7,16 +7,13 @@ from dataclasses import dataclass, field
 from typing import Any
 
 from temzaar.namerisks import NamesCheck
-from temzaar.sitefaults import MOST_FAULTS, Fault
 from temzaar.sitefigures import Line
-from temzaar.siterisks import Risk
-from temzaar.tomldocument import Document
-from temzaar.tomltext import Place
+from temzaar.sitekeys import CARRIER_KEYS, SITE_KEYS
+from temzaar.siterisks import MOST_RISKS, Risk
+from temzaar.sitetext import SiteText
 
-# A line of the file is shown as far as this from the place.
-SHOWN_BEFORE, SHOWN_AFTER = 60, 40
-# In the place of what does not fit.
-CUT = " .. "
+# The most characters of a line of the file that are shown, and what shows that there are more.
+SHOWN, CUT = 100, " .."
 
 
 class Status(enum.IntEnum):
@@ -25,7 +22,6 @@ class Status(enum.IntEnum):
     FAULTS = 1
     NOT_CHECKED = 2
     WARNINGS = 3
-    DISAGREES = 4
 
 
 class Style(enum.Enum):
@@ -46,10 +42,9 @@ def controller_text(fault: str) -> str:
 
 @dataclass(frozen=True)
 class Verdict:
-    """What the controller said of a site file: its own text, or none if it accepts it, and the carriers that it listed."""
+    """What the controller said of a site file: its own text, or none if it accepts it."""
     program: str
     fault: str | None
-    carriers: list[int]
 
     @property
     def words(self) -> str:
@@ -59,10 +54,9 @@ class Verdict:
 
 @dataclass
 class Report:
-    """A check: the file's name, what it has, and what was found. `is_strict`: warnings count."""
+    """A check: the file's name, its text, what the controller said, and what is risky. `is_strict`: warnings count."""
     name: str
-    document: Document
-    faults: list[Fault]
+    site: SiteText
     risks: list[Risk]
     is_strict: bool = False
     lines: list[Line] = field(default_factory=list)
@@ -73,24 +67,22 @@ class Report:
 
     @property
     def fault(self) -> str | None:
-        """The text that the controller has to report."""
-        return self.faults[0].text if self.faults else None
+        """The controller's text of the fault."""
+        return self.verdict.fault if self.verdict else None
 
-    def carriers(self) -> list[int]:
-        """The numbers of the carriers, in order."""
-        return [] if self.faults else sorted(row["number"] for row in self.document.values["carrier"])
-
-    def disagrees(self) -> bool:
-        """Whether the controller said something else."""
-        return self.verdict is not None and (self.verdict.fault, self.verdict.carriers) != (self.fault, self.carriers())
+    def fault_detail(self) -> str:
+        """What is known of the fault beside the controller's text: why it is not TOML, or what the key is."""
+        name = (self.fault or "").rpartition(" ")[2]
+        key = SITE_KEYS.get(name) or CARRIER_KEYS.get(name)
+        if key is None:
+            return self.site.fault
+        return f"`{name}` is {key.what}" + (f": {key.range}" if key.most else "")
 
     def status(self) -> Status:
         """The exit status."""
         if self.silence:
             return Status.NOT_CHECKED
-        if self.disagrees():
-            return Status.DISAGREES
-        if self.faults:
+        if self.fault:
             return Status.FAULTS
         return status_of_warnings(self.is_strict, bool(self.risks) or self.names is not None and bool(self.names.risks))
 
@@ -105,7 +97,7 @@ def printable(text: str) -> str:
     return "".join(it if it.isprintable() else " " if it == "\t" else "\N{REPLACEMENT CHARACTER}" for it in text)
 
 
-def counted(count: int, noun: str, most: int | None = MOST_FAULTS) -> str:
+def counted(count: int, noun: str, most: int | None = MOST_RISKS) -> str:
     """A count and its noun. If it is `most`, it was not counted on."""
     more = " or more" if count == most else ""
     return f"{count}{more} {noun}{'' if count == 1 else 's'}"
@@ -139,8 +131,8 @@ class TextReport:
 
     def lines(self) -> Iterator[str]:
         """All lines."""
-        for number, fault in enumerate(self.report.faults):
-            yield from self.fault_lines(fault, number == 0)
+        if self.report.fault:
+            yield from self.fault_lines(self.report.fault)
         for risk in self.report.risks:
             yield from self.risk_lines(risk)
         if self.report.lines:
@@ -149,40 +141,31 @@ class TextReport:
             yield from name_lines(self.report.names, self.has_colours)
         yield self.summary()
         if self.report.verdict:
-            yield from self.verdict_lines(self.report.verdict)
+            yield printable(self.report.verdict.words)
 
-    def head(self, place: Place | None, what: str, style: Style, text: str) -> str:
+    def head(self, line: int | None, what: str, style: Style, text: str) -> str:
         """The first line of a fault or a warning."""
-        where = f"{printable(self.report.name)}:" + (f"{place.line}:{place.column}:" if place else "")
+        where = f"{printable(self.report.name)}:" + (f"{line}:" if line else "")
         return f"{self.styled(where, Style.PLACE)} {self.styled(f'{what}:', style)} {printable(text)}"
 
-    def fault_lines(self, fault: Fault, is_first: bool) -> Iterator[str]:
-        """The lines of a fault."""
-        within = f"{fault.row}: " if fault.row else ""
-        yield self.head(fault.place, "fault", Style.FAULT, f"{fault.text}: {within}{fault.detail}")
-        yield from self.source_lines(fault.place)
-        if fault.hint:
-            yield f"    do: {printable(fault.hint)}"
-        if is_first:
-            yield f"    the controller reports this one: {controller_text(fault.text)}"
+    def fault_lines(self, text: str) -> Iterator[str]:
+        """The lines of the fault."""
+        line, detail = self.report.site.line_of_fault(text), self.report.fault_detail()
+        yield self.head(line, "fault", Style.FAULT, f"{text}: {detail}" if detail else text)
+        yield from self.source_lines(line)
 
     def risk_lines(self, risk: Risk) -> Iterator[str]:
         """The lines of a warning."""
         within = f"{risk.row}: " if risk.row else ""
-        yield self.head(risk.place, "warning", Style.WARNING, f"{risk.name}: {within}{risk.reason}")
-        yield from self.source_lines(risk.place)
+        yield self.head(risk.line, "warning", Style.WARNING, f"{risk.name}: {within}{risk.reason}")
+        yield from self.source_lines(risk.line)
         yield f"    do: {printable(risk.remedy)}"
 
-    def source_lines(self, place: Place | None) -> Iterator[str]:
-        """The line of the file, as far as it fits, and a mark below the place."""
-        if not place:
-            return
-        text = self.report.document.scan.line(place.line)
-        at = place.column - 1
-        begins, ends = max(0, at - SHOWN_BEFORE), at + SHOWN_AFTER
-        before, after = CUT if begins else "", CUT if ends < len(text) else ""
-        yield f"    {before}{printable(text[begins:ends])}{after}".rstrip()
-        yield f"    {' ' * (len(before) + at - begins)}^"
+    def source_lines(self, line: int | None) -> Iterator[str]:
+        """The line of the file, as far as it fits."""
+        if line:
+            text = self.report.site.line(line)
+            yield f"    {printable(text[:SHOWN])}{CUT if len(text) > SHOWN else ''}".rstrip()
 
     def table_lines(self) -> Iterator[str]:
         """The values as a table."""
@@ -193,28 +176,10 @@ class TextReport:
             yield "  ".join([*(cell.ljust(width) for cell, width in zip(row, widths)), row[3]]).rstrip()
 
     def summary(self) -> str:
-        """The verdict of this tool."""
-        faults, risks = len(self.report.faults), len(self.report.risks)
-        said = self.styled(counted(faults, "fault"), Style.FAULT) if faults else self.styled("right", Style.RIGHT)
-        # a text that is not TOML has no values to warn of
-        more = "" if self.report.document.fault else f", {counted(risks, 'warning')}"
-        return f"{printable(self.report.name)}: {said}{more}"
-
-    def verdict_lines(self, verdict: Verdict) -> Iterator[str]:
-        """The verdict of the controller, and whether it is another one."""
-        yield printable(verdict.words)
-        if self.report.disagrees():
-            yield self.styled("The controller disagrees.", Style.FAULT) + " Its verdict counts: this is a fault of dmr_check. Report it, with the site file."
-
-
-def place_as_json(place: Place | None) -> dict[str, int | None]:
-    """A place for machines."""
-    return {"line": place.line if place else None, "column": place.column if place else None}
-
-
-def row_as_json(found: Fault | Risk) -> dict[str, int | None]:
-    """The carrier of a fault or a warning for machines."""
-    return {"table": found.row.table if found.row else None, "carrier": found.row.number if found.row else None}
+        """The verdict, and how many warnings there are."""
+        words = {True: self.styled("refused", Style.FAULT), False: self.styled("right", Style.RIGHT)}
+        said = words[self.report.fault is not None] if self.report.verdict else "not judged"
+        return f"{printable(self.report.name)}: {said}, {counted(len(self.report.risks), 'warning')}"
 
 
 def names_as_json(names: NamesCheck) -> dict[str, Any]:
@@ -224,14 +189,12 @@ def names_as_json(names: NamesCheck) -> dict[str, Any]:
 
 def report_as_json(report: Report) -> str:
     """The report for machines: one object, on one line."""
-    faults = [{"text": it.text, "key": it.key or None, "detail": it.detail, "do": it.hint or None, "first": number == 0, **place_as_json(it.place), **row_as_json(it)}
-              for number, it in enumerate(report.faults)]
-    warnings = [{"name": it.name, "key": it.key or None, "reason": it.reason, "do": it.remedy, **place_as_json(it.place), **row_as_json(it)} for it in report.risks]
-    verdict = report.verdict
-    said = {"program": verdict.program, "fault": verdict.fault, "agrees": not report.disagrees()} if verdict else None
+    fault = {"text": report.fault, "detail": report.fault_detail() or None, "line": report.site.line_of_fault(report.fault)} if report.fault else None
+    warnings = [{"name": it.name, "key": it.key or None, "reason": it.reason, "do": it.remedy, "line": it.line, "table": it.row.table if it.row else None,
+                 "carrier": it.row.number if it.row else None} for it in report.risks]
     whole: dict[str, Any] = {
-        "file": report.name, "status": int(report.status()), "fault": report.fault, "faults": faults, "warnings": warnings,
-        "controller": said, "no_verdict": report.silence or None,
+        "file": report.name, "status": int(report.status()), "fault": fault, "warnings": warnings,
+        "controller": report.verdict.program if report.verdict else None, "no_verdict": report.silence or None,
     }
     if report.names:
         whole["names"] = names_as_json(report.names)

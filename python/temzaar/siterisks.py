@@ -1,17 +1,16 @@
 """What is risky in a site file that the controller may well accept: each risk with its reason and what to do."""
+import difflib
 import errno
 import ipaddress
 import itertools
 import socket
-from collections.abc import Callable, Iterator, Mapping
+from collections.abc import Callable, Iterable, Iterator, Mapping
 from dataclasses import dataclass
 from typing import Any
 
-from temzaar.sitefaults import Row, Steps, close_names, header_in_words, is_number, row_of
 from temzaar.sitefigures import POLL_MS, Figures, seconds_in_words
 from temzaar.sitekeys import CARRIER_KEYS, SITE_KEYS, WAIT_MS
-from temzaar.tomldocument import Document
-from temzaar.tomltext import Place
+from temzaar.sitetext import SiteText, Steps, is_number
 
 FIRST_OPEN_PORT = 1024
 # As often as this a base station has to be late before it is lost, or a call ends that still has voice.
@@ -33,13 +32,23 @@ MOST_LISTED, MOST_RISKS = 8, 1000
 
 
 @dataclass(frozen=True)
+class Row:
+    """A table `[[carrier]]`: which one it is, counted from 1, and its carrier number, if that is a number."""
+    table: int
+    number: int | None
+
+    def __str__(self) -> str:
+        return f"[[carrier]] {self.table}" + ("" if self.number is None else f", carrier {self.number}")
+
+
+@dataclass(frozen=True)
 class Risk:
-    """A warning: its name, the key that it is about, the reason, what to do, and its place."""
+    """A warning: its name, the key that it is about, the reason, what to do, and its line."""
     name: str
     key: str
     reason: str
     remedy: str
-    place: Place | None = None
+    line: int | None = None
     row: Row | None = None
 
 
@@ -60,6 +69,22 @@ def has_address(address: ipaddress.IPv4Address) -> bool:
     return True
 
 
+def row_of(number: int, table: Mapping[str, Any]) -> Row:
+    """A table `[[carrier]]`, by its index and its values."""
+    found = table.get("number")
+    return Row(number + 1, found if is_number(found) else None)
+
+
+def close_names(name: str, names: Iterable[str]) -> list[str]:
+    """The names that a name may be meant for, the closest first."""
+    return difflib.get_close_matches(name.lower(), names, 2, 0.7)
+
+
+def header_in_words(path: Steps) -> str:
+    """A table's header."""
+    return f"[{'.'.join(str(it) for it in path if isinstance(it, str))}]"
+
+
 def shown_key(path: Steps, value: Any) -> str:
     """A key as the file has it: a table or an array of tables as its header."""
     if isinstance(value, list) and value and isinstance(value[0], dict):
@@ -68,36 +93,27 @@ def shown_key(path: Steps, value: Any) -> str:
 
 
 class Finder:
-    """The risks of a document."""
+    """The risks of a site file."""
 
-    def __init__(self, document: Document, around: Surroundings) -> None:
-        self.document, self.figures, self.around = document, Figures(document.values), around
+    def __init__(self, site: SiteText, around: Surroundings) -> None:
+        self.site, self.figures, self.around = site, Figures(site.values), around
 
     def risks(self) -> Iterator[Risk]:
         """All risks, subject by subject."""
-        for find in (self.text_risks, self.unknown_keys, self.call_risks, self.access_risks, self.clock_risks, self.silence_risks, self.term_risks,
+        for find in (self.unknown_keys, self.call_risks, self.access_risks, self.clock_risks, self.silence_risks, self.term_risks,
                      self.link_risks, self.radio_risks, self.address_risks, self.port_risks, self.group_risks, self.service_risks):
             yield from find()
 
     def risk(self, name: str, path: Steps, reason: str, remedy: str, row: Row | None = None) -> Risk:
         """A risk at a value."""
         key = next((it for it in reversed(path) if isinstance(it, str)), "")
-        return Risk(name, key, reason, remedy, self.document.value_place(path), row)
+        return Risk(name, key, reason, remedy, self.site.line_of(path), row)
 
-    # the text
-
-    def text_risks(self) -> Iterator[Risk]:
-        """What the controller reads, and the other tools do not."""
-        remedy = "write it as TOML 1.0 has it, or do without dmr_siteview and the other tools"
-        if self.document.has_mark:
-            yield Risk("newer-toml", "", "the file begins with a byte order mark: the controller reads it, the other tools do not", "save the file without the mark", Place(1, 1))
-        if self.document.scan.edits:
-            edit = self.document.scan.edits[0]
-            yield Risk("newer-toml", "", f"{edit.what} is new in TOML 1.1: the controller reads it, the other tools do not", remedy, self.document.scan.place(edit.at))
+    # keys
 
     def unknown_keys(self) -> Iterator[Risk]:
         """Keys that the controller does not know, in the file and in its carriers."""
-        yield from self.unknown_in(self.document.values, (), None)
+        yield from self.unknown_in(self.site.values, (), None)
         for number, table in self.figures.rows():
             yield from self.unknown_in(table, ("carrier", number), row_of(number, table))
 
@@ -117,7 +133,7 @@ class Finder:
                 meant = " or ".join(f"`{it}`" for it in missing or there)
                 remedy = f"did you mean {meant}?" if missing else f"remove it, or did you mean {meant}?" if there else "remove it, or make it a comment"
                 reason = f"the controller does not know {shown}, and ignores it"
-            yield Risk("unknown-key", name, reason, remedy, self.document.key_place(path), row)
+            yield Risk("unknown-key", name, reason, remedy, self.site.line_of(path), row)
 
     # calls and times
 
@@ -196,7 +212,7 @@ class Finder:
 
     def radio_risks(self) -> Iterator[Risk]:
         """More radios than a site can have, and radios that never leave."""
-        count, values = self.figures.count_radios(), self.document.values
+        count, values = self.figures.count_radios(), self.site.values
         if count > MOST_REGISTERED:
             yield self.risk("many-radios", ("radios",), f"{count} radios may register, and a site has {MOST_REGISTERED} at once: others are refused", "list the radios of this site alone")
         if values.get("radios") and "leave_bit" not in values:
@@ -218,7 +234,7 @@ class Finder:
 
     def port_risks(self) -> Iterator[Risk]:
         """Ports that only root may open."""
-        ports: list[tuple[Steps, Row | None, Any]] = [(("console_port",), None, self.document.values.get("console_port"))]
+        ports: list[tuple[Steps, Row | None, Any]] = [(("console_port",), None, self.site.values.get("console_port"))]
         ports += [(("carrier", number, "port"), row_of(number, table), table.get("port")) for number, table in self.figures.rows()]
         for path, row, port in ports:
             if is_number(port) and 0 < port < FIRST_OPEN_PORT:
@@ -240,13 +256,15 @@ class Finder:
     def service_risks(self) -> Iterator[Risk]:
         """Services with the numbers of radios. The controller refuses such ranges."""
         for name in ("regi", "tsi"):
-            value = self.document.values.get(name)
+            value = self.site.values.get(name)
             among = next((it for _, it in self.figures.ranges() if is_number(value) and value in it), None)
             if among:
                 yield self.risk("service-in-radios", (name,), f"`{name}`, {value}, is within the radios {among}: a radio could have the address of the site",
                                 f"end the range at {SITE_KEYS['radios'].most} or before")
 
 
-def find_risks(document: Document, around: Surroundings) -> list[Risk]:
-    """The risks of a document, `MOST_RISKS` at most; none if it is not TOML."""
-    return [] if document.fault else list(itertools.islice(Finder(document, around).risks(), MOST_RISKS))
+def find_risks(site: SiteText, around: Surroundings) -> list[Risk]:
+    """The risks of a site file, `MOST_RISKS` at most. Of one that `tomllib` does not read they are not known, but for this."""
+    if site.fault:
+        return [Risk("newer-toml", "", f"the other tools do not read the file: {site.fault}", "write it as TOML 1.0 has it, and without a byte order mark", site.fault_line)]
+    return list(itertools.islice(Finder(site, around).risks(), MOST_RISKS))

@@ -1,4 +1,4 @@
-"""The command dmr_check, run as its user runs it: statuses, reports, standard input, and a controller that agrees, disagrees, or judges nothing."""
+"""The command dmr_check, run as its user runs it: statuses, reports, standard input, and a controller that accepts, refuses, or judges nothing."""
 import json
 import os
 import pathlib
@@ -11,21 +11,16 @@ import unittest
 
 from temzaar.cli.check import MOST_OCTETS
 from tests.support import SITES, TOP, TWO_CARRIERS, program, run_tool, take_signals, tool_words
-from tests.test_check_faults import SITE
+from tests.test_check_risks import SITE
 
 FAULTY = SITE.replace("lpcn = 2", "lpcn = 4095").replace("hang = 100", "hnag = 100")
 SHOWN = """\
-FILE: fault: missing hang: the key is required
-    do: `hnag` at line 5 may be meant for it
-    the controller reports this one: dmr_trunk: site file: missing hang
-FILE:25:8: fault: out of range lpcn: [[carrier]] 2, carrier 1: 4095 is reserved and names no channel: 1 to 4094
-    lpcn = 4095
-           ^
-FILE:5:1: warning: unknown-key: the controller does not know `hnag`, and ignores it
+FILE: fault: missing hang: `hang` is how long a call lasts without voice: 1 to 65535 ticks
+FILE:5: warning: unknown-key: the controller does not know `hnag`, and ignores it
     hnag = 100
-    ^
     do: did you mean `hang`?
-FILE: 2 faults, 1 warning
+FILE: refused, 1 warning
+dmr_trunk refuses it: dmr_trunk: site file: missing hang
 """
 NAMES = "radio,1001,Bus 12\nradio,5,Bus 5\ntalkgroup,7,x\ncarrier,9,y\nz\ntalkgroup,91,Drivers\nradio,1002,\n"
 ACCEPTS = 'printf "carrier 0 -\\ncarrier 1 -\\n"'
@@ -39,9 +34,10 @@ class Command(unittest.TestCase):
         holder = tempfile.TemporaryDirectory()
         self.addCleanup(holder.cleanup)
         self.folder = pathlib.Path(holder.name)
-        # no dmr_trunk is on the PATH, unless a test puts one there
+        # a dmr_trunk that accepts all is on the PATH, unless a test puts another one there
         self.environment = {**os.environ, "PATH": str(self.folder / "bin")}
         (self.folder / "bin").mkdir()
+        self.controller(ACCEPTS)
 
     def site(self, text: str, name: str = "site.toml") -> str:
         """A site file. Its path."""
@@ -71,13 +67,14 @@ class Reports(Command):
 
     def test_right(self) -> None:
         done = self.check(TWO_CARRIERS)
-        self.assertEqual((done.returncode, done.stdout, done.stderr), (0, f"{TWO_CARRIERS}: right, 0 warnings\n", ""))
+        self.assertEqual((done.returncode, done.stdout, done.stderr), (0, f"{TWO_CARRIERS}: right, 0 warnings\ndmr_trunk accepts it\n", ""))
 
     def test_files_of_the_repository(self) -> None:
         for path in SITES.glob("*.toml"):
             self.assertEqual(self.check(str(path)).returncode, 0, path.name)
 
     def test_faults_and_warnings(self) -> None:
+        self.controller(REFUSES)
         path = self.site(FAULTY)
         done = self.check(path)
         self.assertEqual((done.returncode, done.stderr), (1, ""))
@@ -92,14 +89,15 @@ class Reports(Command):
             done = self.check(*words)
             self.assertEqual((done.returncode, done.stdout, done.stderr), (status, alone, ""))
         both = (f"{path}:2: warning: unknown-radio: radio 5 is in no range of `radios`: it cannot register\n{path}:3: warning: unknown-talkgroup: talkgroup 7 is not in `groups`: nobody can call it\n"
-                f"{path}:4: warning: unknown-carrier: no `[[carrier]]` has the number 9\n{unused}{path}: 5 names, 5 warnings\n{TWO_CARRIERS}: right, 0 warnings\n")
+                f"{path}:4: warning: unknown-carrier: no `[[carrier]]` has the number 9\n{unused}{path}: 5 names, 5 warnings\n{TWO_CARRIERS}: right, 0 warnings\ndmr_trunk accepts it\n")
         for words, status in ((["--names", path, TWO_CARRIERS], 0), (["--names", path, "--strict", TWO_CARRIERS], 3)):
             done = self.check(*words)
             self.assertEqual((done.returncode, done.stdout, done.stderr), (status, both, ""))
         # what a site file that is refused has is not known
-        self.expect(["--names", path, self.site(FAULTY)], 1, "2 faults, 1 warning\n")
+        self.expect(["--names", self.site("x\n", "other.csv"), TWO_CARRIERS], 0, f"other.csv: 0 names, 1 warning\n{TWO_CARRIERS}: right, 0 warnings\ndmr_trunk accepts it\n")
+        self.controller(REFUSES)
+        self.expect(["--names", path, self.site(FAULTY)], 1, "refused, 1 warning\ndmr_trunk refuses it: dmr_trunk: site file: missing hang\n")
         self.assertIn(f"{path}: 5 names, 2 warnings\n", self.check("--names", path, self.site(FAULTY)).stdout)
-        self.expect(["--names", self.site("x\n", "other.csv"), TWO_CARRIERS], 0, f"other.csv: 0 names, 1 warning\n{TWO_CARRIERS}: right, 0 warnings\n")
         self.expect(["--names", path + "x", TWO_CARRIERS], 2, "", f"check: {path}x: No such file or directory\n")
         self.assertEqual(self.check().stderr.splitlines()[-1], "check: error: the following arguments are required: SITE_FILE")
 
@@ -115,22 +113,37 @@ class Reports(Command):
         """A thousand warnings are listed, and the others counted."""
         path = self.site("".join(f"radio,{it},a\n" for it in range(5000, 6000)) + "x\n" * 1500, "names.csv")
         lines = self.check("--names", path, TWO_CARRIERS).stdout.splitlines()
-        self.assertEqual((len(lines), lines[-3], lines[-2]), (1003, f"{path}: 1500 more warnings are not listed", f"{path}: 1000 names, 2500 warnings"))
+        self.assertEqual((len(lines), lines[-4], lines[-3]), (1004, f"{path}: 1500 more warnings are not listed", f"{path}: 1000 names, 2500 warnings"))
 
     def test_the_example_of_names(self) -> None:
         done = self.check("--names", str(SITES / "names.csv"), "--strict", TWO_CARRIERS)
         self.assertEqual((done.returncode, done.stdout.splitlines()[0]), (0, f"{SITES}/names.csv: 8 names, 0 warnings"))
 
     def test_not_toml(self) -> None:
+        """The reason, and the line, are those of Python's parser. What it does not read and the controller accepts is a warning."""
         path = self.site("a = 1\nb =")
-        self.expect([path], 1, f"{path}:2:4: fault: not TOML: Invalid value\n    b =\n       ^\n    the controller reports this one: dmr_trunk: site file: not TOML\n{path}: 1 fault\n")
+        self.expect([path], 0, f"{path}:2: warning: newer-toml: the other tools do not read the file: Invalid value\n    b =\n"
+                               f"    do: write it as TOML 1.0 has it, and without a byte order mark\n{path}: right, 1 warning\ndmr_trunk accepts it\n")
+        self.controller('echo "dmr_trunk: site file: not TOML" >&2; exit 1')
+        self.expect([path], 1, f"{path}:2: fault: not TOML: Invalid value\n    b =\n{path}: refused, 0 warnings\ndmr_trunk refuses it: dmr_trunk: site file: not TOML\n")
+
+    def test_the_line_of_a_fault(self) -> None:
+        """The key's line; of carriers that of the first one to which the controller's text may apply, counted by hand; the header if the key is missing."""
+        for old, new, fault, line in (("hang = 100", "hang = 0", "out of range hang", 5), ("tsi = 0xFFFECA", "tsi = 0xFFFEC6", "repeated tsi", 3), ("control = 0", "control = 2", "out of range control", 18),
+                                      ("groups = [91, 92, 93, 94]", "groups = [\n91, 91]", "repeated groups", 17), ("lpcn = 2", "lpcn = 4095", "out of range lpcn", 25), ("lpcn = 2", "lpcn = 1", "repeated lpcn", 25),
+                                      ("lpcn = 2\n", "", "missing lpcn", 23), ("port = 7102", "port = 'x'", "wrong type port", 26), ("port = 7101", "port = 7100", "repeated port", 22),
+                                      ("port = 7102", "port = 7101", "repeated port", 26), ("number = 1", "number = 16", "out of range number", 24), ("control = 0", "carriers = 0", "missing control", None)):
+            self.assertIn(old, SITE)
+            self.controller(f'echo "dmr_trunk: site file: {fault}" >&2; exit 1')
+            done = self.check("--json", self.site(SITE.replace(old, new, 1)))
+            self.assertEqual((done.returncode, json.loads(done.stdout)["fault"]["text"], json.loads(done.stdout)["fault"]["line"]), (1, fault, line))
 
     def test_json(self) -> None:
+        self.controller(REFUSES)
         done = self.check("--json", "--explain", self.site(FAULTY))
         found = json.loads(done.stdout)
-        self.assertEqual((done.returncode, found["status"], found["fault"], found["controller"]), (1, 1, "missing hang", None))
-        self.assertEqual([(it["text"], it["first"], it["line"], it["column"], it["table"], it["carrier"]) for it in found["faults"]],
-                         [("missing hang", True, None, None, None, None), ("out of range lpcn", False, 25, 8, 2, 1)])
+        self.assertEqual((done.returncode, found["status"], found["fault"], found["controller"]),
+                         (1, 1, {"text": "missing hang", "detail": "`hang` is how long a call lasts without voice: 1 to 65535 ticks", "line": None}, "dmr_trunk"))
         self.assertEqual([(it["name"], it["key"], it["line"], it["do"]) for it in found["warnings"]], [("unknown-key", "hnag", 5, "did you mean `hang`?")])
         self.assertEqual(next(it for it in found["values"] if it["key"] == "maximum")["amounts"], "3 min 0 s")
         self.assertNotIn("values", json.loads(self.check("--json", TWO_CARRIERS).stdout))
@@ -145,26 +158,25 @@ class Reports(Command):
         self.assertNotIn("what it is", self.check("--explain", self.site("a =")).stdout)
 
     def test_a_long_line(self) -> None:
-        """A line that does not fit is cut, and has a mark at each cut."""
-        groups = ", ".join(map(str, range(2001, 2041)))
-        long = self.check(self.site(SITE.replace("groups = [91, 92, 93, 94]", f"groups = [{groups}, 1000, 3001, 3002, 3003, 3004, 3005, 3006, 3007]"))).stdout.split("\n")
-        self.assertRegex(long[1], r"^     \.\. [\d, ]+1000, [\d, ]+ \.\.$")
-        self.assertEqual(long[1].index("1000"), long[2].index("^"))
-        short = self.check(self.site(SITE.replace("groups = [91, 92, 93, 94]", "groups = [2001, 3001, 1000]"))).stdout.split("\n")
-        self.assertEqual(short[1], "    groups = [2001, 3001, 1000]")
+        """A line that does not fit is cut."""
+        groups = ", ".join(map(str, range(1001, 1041)))
+        shown = self.check(self.site(SITE.replace("groups = [91, 92, 93, 94]", f"groups = [{groups}]"))).stdout.split("\n")[1]
+        self.assertEqual(shown, "    " + f"groups = [{groups}]"[:100] + " ..")
 
     def test_strict(self) -> None:
         path = self.site(SITE.replace("hang = 100", "hang = 1"))
-        for words, status in (([path], 0), (["--strict", path], 3), (["--strict", TWO_CARRIERS], 0), (["--strict", self.site(FAULTY, "other.toml")], 1)):
+        for words, status in (([path], 0), (["--strict", path], 3), (["--strict", TWO_CARRIERS], 0)):
             self.assertEqual(self.check(*words).returncode, status)
+        self.controller(REFUSES)
+        self.assertEqual(self.check("--strict", path).returncode, 1)
 
     def test_link_version(self) -> None:
         self.assertIn("warning: old-link: ", self.check("--link-version", "2", TWO_CARRIERS).stdout)
         self.assertNotIn("old-link", self.check("--link-version", "1", TWO_CARRIERS).stdout)
 
     def test_standard_input(self) -> None:
-        self.expect(["-"], 0, "<stdin>: right, 0 warnings\n", input=SITE)
-        self.expect(["-"], 1, "<stdin>: 2 faults, 1 warning\n", input=FAULTY)
+        self.expect(["-"], 0, "<stdin>: right, 0 warnings\ndmr_trunk accepts it\n", input=SITE)
+        self.expect(["-"], 0, "<stdin>: right, 1 warning\ndmr_trunk accepts it\n", input=FAULTY)
 
     def test_what_would_change_a_terminal_is_not_printed(self) -> None:
         path = self.site("\x1b[2J = 1\n", "\x1b[31m.toml")
@@ -172,6 +184,7 @@ class Reports(Command):
         self.assertNotIn("\x1b", self.check(self.site('"\\u001b[2J" = 1\n' + SITE)).stdout)
 
     def test_colours_on_a_terminal_alone(self) -> None:
+        self.controller(REFUSES)
         path = self.site(FAULTY)
         self.assertNotIn("\x1b", self.check(path).stdout)
         for environment, has_colours in (({"TERM": "xterm"}, True), ({"TERM": "xterm", "NO_COLOR": "1"}, False), ({"TERM": "dumb"}, False)):
@@ -217,25 +230,22 @@ class Refused(Command):
     def test_not_utf_8(self) -> None:
         path = self.folder / "site.toml"
         path.write_bytes(b"a = 1\n# \xff\n")
-        self.expect([str(path)], 1, ": 1 fault\n")
+        self.expect(["--no-controller", str(path)], 0, ": not judged, 1 warning\n")
+        self.assertIn(f"{path}:2: warning: newer-toml: the other tools do not read the file: the octet FF is not UTF-8\n", self.check(str(path)).stdout)
 
 
 class Asked(Command):
-    """The controller has the last word."""
+    """The controller judges."""
 
-    def test_it_agrees(self) -> None:
-        self.controller(ACCEPTS)
+    def test_it_accepts_and_refuses(self) -> None:
         self.expect([TWO_CARRIERS], 0, "right, 0 warnings\ndmr_trunk accepts it\n")
         self.controller(REFUSES)
-        self.expect([self.site(FAULTY)], 1, "dmr_trunk refuses it: dmr_trunk: site file: missing hang\n")
-        self.expect(["--no-controller", TWO_CARRIERS], 0, "right, 0 warnings\n")
+        self.expect([self.site(FAULTY)], 1, "refused, 1 warning\ndmr_trunk refuses it: dmr_trunk: site file: missing hang\n")
+        self.expect(["--no-controller", TWO_CARRIERS], 0, "not judged, 0 warnings\n")
 
-    def test_it_disagrees(self) -> None:
-        said = "The controller disagrees. Its verdict counts: this is a fault of dmr_check. Report it, with the site file.\n"
-        for script, text in ((REFUSES, SITE), (ACCEPTS, FAULTY), (REFUSES, FAULTY.replace("regi = 0xFFFEC6\n", "")), ('echo "carrier 0 -"', SITE)):
-            self.expect(["--controller", self.controller(script, "other"), self.site(text)], 4, said)
-        found = json.loads(self.check("--json", "--controller", self.controller(REFUSES, "other"), TWO_CARRIERS).stdout)
-        self.assertEqual((found["status"], found["fault"], found["controller"]), (4, None, {"program": str(self.folder / "other"), "fault": "missing hang", "agrees": False}))
+    def test_there_is_none(self) -> None:
+        (self.folder / "bin" / "dmr_trunk").unlink()
+        self.expect([TWO_CARRIERS], 2, "", "check: there is no dmr_trunk on the PATH that judges the site file: name one with --controller, or do without by --no-controller\n")
 
     def test_what_it_is_given(self) -> None:
         self.controller(f'test "$1" = --site && test "$3" = --script && test "$4" = /dev/null && cp "$2" {self.folder}/copy && cat {self.folder}/said')
@@ -255,16 +265,16 @@ class Asked(Command):
 
     def test_it_judges_nothing(self) -> None:
         for script, said in (("exit 4", "status 4: no message"), ("echo dmr_trunk: out of memory >&2; exit 4", "status 4: dmr_trunk: out of memory"),
-                             ("echo other >&2; exit 1", "status 1: other"), ("kill -9 $$", "status -9: no message")):
+                             ("echo other >&2; exit 1", "status 1: other"), ("kill -9 $$", "status -9: no message"), ("exit 0", "status 0: no message")):
             self.controller(script)
-            self.expect([self.site(FAULTY)], 2, "2 faults, 1 warning\n", f"check: dmr_trunk judged nothing, {said}\n")
+            self.expect([self.site(FAULTY)], 2, "not judged, 1 warning\n", f"check: dmr_trunk judged nothing, {said}\n")
         self.assertIn("judged nothing", json.loads(self.check("--json", TWO_CARRIERS).stdout)["no_verdict"])
 
     def test_a_broken_program(self) -> None:
         path = self.folder / "bin" / "dmr_trunk"
         path.write_bytes(b"\0")
         path.chmod(0o755)
-        self.expect([TWO_CARRIERS], 2, "right, 0 warnings\n", "check: cannot run dmr_trunk: Exec format error\n")
+        self.expect([TWO_CARRIERS], 2, "not judged, 0 warnings\n", "check: cannot run dmr_trunk: Exec format error\n")
 
     def test_signals(self) -> None:
         self.controller(f"touch {self.folder}/began; exec sleep 60")

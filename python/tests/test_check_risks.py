@@ -1,54 +1,82 @@
-"""The warnings of dmr_check: each comes once, with its place, and none for a site without risks. And the times and figures that it explains."""
+"""The warnings of dmr_check: each comes once, with its line, and none for a site without risks. And the times and figures that it explains."""
 import ipaddress
 import re
 import unittest
 
 from temzaar.sitefigures import Figures, Line, explain_site
 from temzaar.siterisks import Risk, Surroundings, find_risks, has_address
-from temzaar.tomldocument import read_document
-from temzaar.tomltext import Place
+from temzaar.sitetext import SiteText
 from tests.support import SITES, read_document as read_page
-from tests.test_check_faults import ROWS, SITE
 
+SITE = """\
+system = 0x1234
+regi = 0xFFFEC6
+tsi = 0xFFFECA
+leave_bit = 0
+hang = 100
+maximum = 3000
+ahoy_wait = 8
+ahoy_tries = 3
+grant_copies = 1
+clear_copies = 1
+backoff_low = 1
+backoff_high = 8
+tick_ms = 60
+silence = 50
+console_port = 7100
+radios = [[1000, 1999]]
+groups = [91, 92, 93, 94]
+control = 0
+[[carrier]]
+number = 0
+lpcn = 1
+port = 7101
+[[carrier]]
+number = 1
+lpcn = 2
+port = 7102
+"""
+ROWS = SITE[SITE.index("[[carrier]]"):]
 SIXTEEN = "".join(f"[[carrier]]\nnumber = {n}\nlpcn = {n + 1}\nport = {7101 + n}\n" for n in range(16))
-# A change of the site file, the warning, its place, and a word of the reason or of what to do. Lines and columns are counted by hand.
-CHANGES: list[tuple[str, str, str, Place | None, str]] = [
-    ("hang = 100", "hang = 100\nhnag = 1", "unknown-key", Place(6, 1), "remove it"),
-    ("control = 0", "control = 0\nlink_versio = 2", "unknown-key", Place(19, 1), "did you mean `link_version`?"),
-    ("control = 0", "control = 0\nTerm_Entries = 2000", "unknown-key", Place(19, 1), "did you mean `term_entries`?"),
-    ("control = 0", "control = 0\nport = 1", "unknown-key", Place(19, 1), "below a `[[carrier]]`"),
-    ("lpcn = 2", "lpcn = 2\nsilence = 5", "unknown-key", Place(26, 1), "above the first header"),
-    ("lpcn = 2", "lpcn = 2\nnam = 'x'", "unknown-key", Place(26, 1), "[[carrier]] 2, carrier 1"),
-    ("port = 7102", "port = 7102\n[extra]\nhang = 1\nx = 2", "unknown-key", Place(27, 1), "know [extra], and ignores it"),
-    ("port = 7102", "port = 7102\n[carrier.extra]\nx = 2", "unknown-key", Place(27, 1), "carrier 1: the controller does not know [carrier.extra], and"),
-    ("port = 7102", "port = 7102\n[[carriers]]\n[[carriers]]", "unknown-key", Place(27, 3), "know [[carriers]], and ignores it remove it, or did you mean `carrier`?"),
-    (ROWS, "carrier = [{ number = 0, lpcn = 1, port = 7101, }]", "newer-toml", Place(19, 47), "TOML 1.1"),
-    ("system", "\ufeffsystem", "newer-toml", Place(1, 1), "byte order mark"),
-    ("console_port = 7100", "console_port = 1023", "low-port", Place(15, 16), "1023 is below 1024"),
-    ("port = 7102", "port = 102", "low-port", Place(26, 8), "[[carrier]] 2, carrier 1"),
-    ("control = 0", "control = 0\naddress = [192, 0, 2, 1]", "foreign-address", Place(19, 11), "192.0.2.1"),
-    ("control = 0", "control = 0\naddress = [224, 0, 0, 1]", "foreign-address", Place(19, 11), "224.0.0.1"),
-    ("control = 0", "control = 0\naddress = [0, 0, 0, 0]", "open-address", Place(19, 11), "firewall"),
-    ("groups = [91, 92, 93, 94]", "groups = [91, 1000, 1999, 2000]", "group-in-radios", Place(17, 15), "talkgroups 1000, 1999 are numbers of radios too (1000 to 1999)"),
-    ("[[1000, 1999]]", "[[1, 5], [16776900, 16776902]]", "service-in-radios", Place(2, 8), "`regi`, 16776902"),
-    ("maximum = 3000", "maximum = 100", "maximum-below-hang", Place(6, 11), "`hang` is 100"),
+# A change of the site file, the warning, its line, and a word of the reason or of what to do. Lines are counted by hand.
+CHANGES: list[tuple[str, str, str, int | None, str]] = [
+    ("hang = 100", "hang = 100\nhnag = 1", "unknown-key", 6, "remove it"),
+    ("control = 0", "control = 0\nlink_versio = 2", "unknown-key", 19, "did you mean `link_version`?"),
+    ("control = 0", "control = 0\nTerm_Entries = 2000", "unknown-key", 19, "did you mean `term_entries`?"),
+    ("control = 0", "control = 0\nport = 1", "unknown-key", 19, "below a `[[carrier]]`"),
+    ("lpcn = 2", "lpcn = 2\nsilence = 5", "unknown-key", 26, "above the first header"),
+    ("lpcn = 2", "lpcn = 2\nnam = 'x'", "unknown-key", 26, "[[carrier]] 2, carrier 1"),
+    ("port = 7102", "port = 7102\n[extra]\nhang = 1\nx = 2", "unknown-key", 27, "know [extra], and ignores it"),
+    ("port = 7102", "port = 7102\n[carrier.extra]\nx = 2", "unknown-key", 27, "carrier 1: the controller does not know [carrier.extra], and"),
+    ("port = 7102", "port = 7102\n[[carriers]]\n[[carriers]]", "unknown-key", 27, "know [[carriers]], and ignores it remove it, or did you mean `carrier`?"),
+    (ROWS, "carrier = [{ number = 0, lpcn = 1, port = 7101, }]", "newer-toml", 19, "TOML 1.0"),
+    ("system", "\ufeffsystem", "newer-toml", 1, "byte order mark"),
+    ("hang = 100", "# \udcff", "newer-toml", 5, "the octet FF is not UTF-8"),
+    ("console_port = 7100", "console_port = 1023", "low-port", 15, "1023 is below 1024"),
+    ("port = 7102", "port = 102", "low-port", 26, "[[carrier]] 2, carrier 1"),
+    ("control = 0", "control = 0\naddress = [192, 0, 2, 1]", "foreign-address", 19, "192.0.2.1"),
+    ("control = 0", "control = 0\naddress = [224, 0, 0, 1]", "foreign-address", 19, "224.0.0.1"),
+    ("control = 0", "control = 0\naddress = [0, 0, 0, 0]", "open-address", 19, "firewall"),
+    ("groups = [91, 92, 93, 94]", "groups = [91, 1000, 1999, 2000]", "group-in-radios", 17, "talkgroups 1000, 1999 are numbers of radios too (1000 to 1999)"),
+    ("[[1000, 1999]]", "[[1, 5], [16776900, 16776902]]", "service-in-radios", 2, "`regi`, 16776902"),
+    ("maximum = 3000", "maximum = 100", "maximum-below-hang", 6, "`hang` is 100"),
     # 333 ticks of 60 ms are 19.98 s
-    ("maximum = 3000", "maximum = 333", "short-maximum", Place(6, 11), "in ticks, not in seconds"),
-    ("silence = 50", "silence = 61", "silence-above-hang", Place(14, 11), "is lost after 6.1 s, and its calls end after `hang`, 6.0 s"),
+    ("maximum = 3000", "maximum = 333", "short-maximum", 6, "in ticks, not in seconds"),
+    ("silence = 50", "silence = 61", "silence-above-hang", 14, "is lost after 6.1 s, and its calls end after `hang`, 6.0 s"),
     # 1,000 radios are 1000 to 1999, and 3,097 are 5000 to 8096
-    ("[[1000, 1999]]", "[[1000, 1999], [5000, 8096]]", "many-radios", Place(16, 10), "4097 radios may register"),
-    ("leave_bit = 0\n", "", "no-leave-bit", Place(15, 10), "no radio can deregister"),
+    ("[[1000, 1999]]", "[[1000, 1999], [5000, 8096]]", "many-radios", 16, "4097 radios may register"),
+    ("leave_bit = 0\n", "", "no-leave-bit", 15, "no radio can deregister"),
     # 10 polls of 60 ms are 600 ms: 9 ticks of 60 ms are fewer
-    ("hang = 100", "hang = 9", "short-hang", Place(5, 8), "540 ms"),
-    ("ahoy_wait = 8", "ahoy_wait = 1", "short-ahoy", Place(7, 13), "60 ms"),
-    ("silence = 50", "silence = 5", "short-silence", Place(14, 11), "500 ms"),
-    ("silence = 50", "silence = 601", "long-silence", Place(14, 11), "60.1 s"),
-    ("backoff_low = 1", "backoff_low = 8", "narrow-backoff", Place(12, 16), "both 8"),
+    ("hang = 100", "hang = 9", "short-hang", 5, "540 ms"),
+    ("ahoy_wait = 8", "ahoy_wait = 1", "short-ahoy", 7, "60 ms"),
+    ("silence = 50", "silence = 5", "short-silence", 14, "500 ms"),
+    ("silence = 50", "silence = 601", "long-silence", 14, "60.1 s"),
+    ("backoff_low = 1", "backoff_low = 8", "narrow-backoff", 12, "both 8"),
     # 568 octets x 100,000 x 5 are 271 MiB
-    ("control = 0", "control = 0\nterm_entries = 100000", "large-terms", Place(19, 16), "271 MiB"),
+    ("control = 0", "control = 0\nterm_entries = 100000", "large-terms", 19, "271 MiB"),
     # two carriers that poll each 60 ms, and ticks of 60 ms: 50 entries a second
-    ("control = 0", "control = 0\nterm_entries = 249", "short-terms", Place(19, 16), "5.0 s"),
-    ("tick_ms = 60\nsilence = 50", "tick_ms = 29\nsilence = 25", "fast-tick", Place(13, 11), "29 ms"),
+    ("control = 0", "control = 0\nterm_entries = 249", "short-terms", 19, "5.0 s"),
+    ("tick_ms = 60\nsilence = 50", "tick_ms = 29\nsilence = 25", "fast-tick", 13, "29 ms"),
 ]
 # The same, just on the other side of each limit.
 RIGHT = [
@@ -62,18 +90,18 @@ RIGHT = [
 
 def risks_of(text: str, link_version: int | None = None) -> list[Risk]:
     """The warnings for a site file on a machine that has the loopback addresses alone."""
-    return find_risks(read_document(text.encode()), Surroundings(lambda address: address.is_loopback, link_version))
+    return find_risks(SiteText.of(text.encode(errors="surrogateescape")), Surroundings(lambda address: address.is_loopback, link_version))
 
 
 class Risks(unittest.TestCase):
     """Each warning."""
 
     def test_each_once(self) -> None:
-        for old, new, name, place, word in CHANGES:
+        for old, new, name, line, word in CHANGES:
             with self.subTest(name, new=new[:40]):
                 self.assertIn(old, SITE)
                 found = risks_of(SITE.replace(old, new, 1))
-                self.assertEqual([(it.name, it.place) for it in found], [(name, place)])
+                self.assertEqual([(it.name, it.line) for it in found], [(name, line)])
                 self.assertIn(word, f"{found[0].row}: {found[0].reason} {found[0].remedy}")
                 self.assertTrue(found[0].remedy)
 
@@ -101,8 +129,7 @@ class Risks(unittest.TestCase):
         self.assertEqual(named, {"two_carriers.toml": [], "sixteen_carriers.toml": ["foreign-address"]})
 
     def test_no_warnings_without_values(self) -> None:
-        self.assertEqual(risks_of("a = "), [])
-        self.assertEqual([it.name for it in risks_of("")], [])
+        self.assertEqual(risks_of(""), [])
 
     def test_wrong_types_are_no_warnings(self) -> None:
         text = re.sub(r"= (.*)", "= 'x'", SITE[:SITE.index("[[")])
@@ -123,7 +150,7 @@ class Explained(unittest.TestCase):
 
     def amounts(self, text: str) -> dict[str, Line]:
         """The lines of the explanation, by key."""
-        return {it.key: it for it in explain_site(read_document(text.encode()).values)}
+        return {it.key: it for it in explain_site(SiteText.of(text.encode()).values)}
 
     def test_times(self) -> None:
         lines = self.amounts(SITE.replace("hang = 100", "hang = 50"))

@@ -11,10 +11,9 @@ from statistics import fmean, stdev
 
 from temzaar.cli import check
 from temzaar.erlang import MOST_CARRIERS, Demand, Plan, Service, lost_share, waiting_share
-from temzaar.sitefaults import find_faults
 from temzaar.sitefile import Site
 from temzaar.siterisks import Surroundings, find_risks
-from temzaar.tomldocument import read_document
+from temzaar.sitetext import SiteText
 from tests.support import TWO_CARRIERS, call_tool, read_document as read_page, table_rows
 
 # T. S. Rappaport, Wireless Communications: Principles and Practice, 2nd edition, 2002, table 3.4:
@@ -168,8 +167,7 @@ class Advice(unittest.TestCase):
         """A site file with these values has no fault and no risk."""
         site = Site(TWO_CARRIERS)
         site.plan |= {key: int(value) for key, value in values.items()}
-        document = read_document(site.text().encode())
-        self.assertEqual((find_faults(document), find_risks(document, Surroundings(lambda _: True))), ([], []))
+        self.assertEqual(find_risks(SiteText.of(site.text().encode()), Surroundings(lambda _: True)), [])
 
     def test_system(self) -> None:
         """The sums for `system`: each field has its place, and all sixteen bits are used once."""

@@ -1,25 +1,23 @@
-"""Checks a site file before a restart: every fault with its place, and what is risky. With --plan it says how many carriers a site needs.
+"""Checks a site file before a restart: what the controller says of it, and what is risky. With --plan it says how many carriers a site needs.
 
     check --plan --radios 300 --calls-an-hour 4 --seconds 12     no site file: how many carriers 300 radios need, of which each begins 4 calls of 12 s in an hour
-    check site.toml                         the faults and the warnings
+    check site.toml                         the controller's verdict, and the warnings
     check --explain site.toml               the values too, with times in seconds
-    check --controller build/dmr_trunk -    standard input, and the controller's own verdict at the end
+    check --controller build/dmr_trunk -    standard input, judged by this controller
     check --names names.csv site.toml       the names of radios, talkgroups and carriers too; or without the site file, these alone
 
-A fault is what the controller refuses. It reports the first one alone, and here that one is marked. A warning is what it accepts, and an operator may not have
-meant: each says why, and what to do. Keys that the controller does not know are among them, since it ignores them.
+The controller judges: the program that --controller names, or else the dmr_trunk on the PATH, replays an empty script over the file. It reports its first fault,
+and here that has the line of its key. A warning is what the controller accepts, and an operator may not have meant: each says why, and what to do. Keys that the
+controller does not know are among them, since it ignores them. With --no-controller there are warnings alone.
 
 With --names each line of that file that is not used is a warning. So is a name for a radio, a talkgroup or a carrier that the site file does not have.
 
-The controller that --controller names, or else the dmr_trunk on the PATH, has the last word: it replays an empty script over the file. If it disagrees, that is
-a fault of this tool.
-
 A plan is computed by Erlang C: requests come independently of each other, and wait in their order for a slot. With status 1 sixteen carriers are too few.
 
-Status: 0 right; 1 faults; 2 the words, or a file or program that cannot be read or run; 3 warnings, with --strict; 4 the controller disagrees.
+Status: 0 right; 1 the controller refuses it; 2 the words, or a file or program that cannot be read or run, or no controller; 3 warnings, with --strict.
 
-With --json standard output is one object: `status`, the controller's text as `fault`, the lists `faults` and `warnings` with `line` and `column`, and
-`controller`; with --explain also `values`. `no_verdict` says why the controller gave none. With --names also `names`: the number of names, and `warnings` with `line`.
+With --json standard output is one object: `status`, the `fault` with `text`, `detail` and `line`, the list `warnings`, and `controller`; with --explain also `values`.
+`no_verdict` says why the controller gave none. With --names also `names`: the number of names, and `warnings` with `line`.
 """
 import argparse
 import json
@@ -37,14 +35,15 @@ from temzaar.faults import ToolFault
 from temzaar.frames import VERSIONS
 from temzaar.namerisks import check_names
 from temzaar.names import scan_names
-from temzaar.sitefaults import find_faults
 from temzaar.sitefigures import Figures, explain_site
 from temzaar.sitereport import REFUSAL, Report, Status, Verdict, name_lines, names_as_json, report_as_json, report_as_text, status_of_warnings
 from temzaar.siterisks import Surroundings, find_risks, has_address
-from temzaar.tomldocument import read_document
+from temzaar.sitetext import SiteText
 
 PROGRAM = "dmr_trunk"
 STANDARD_INPUT = "-"
+# What the controller says of a text that is not TOML.
+NOT_TOML = "not TOML"
 # A site file has some KiB.
 MOST_OCTETS = 1 << 20
 # What is read of the controller's output, and how long it may take.
@@ -79,11 +78,13 @@ def read_site(path: str) -> bytes:
 
 
 def find_controller(named: str | None, is_left_out: bool) -> str | None:
-    """The controller that has the last word: the path that was named, or the one on the PATH. CheckFault: the one that was named is not a program."""
+    """The controller that judges: the path that was named, or the one on the PATH. CheckFault: there is none, or the one that was named is not a program."""
     if is_left_out:
         return None
     if not named:
-        return PROGRAM if shutil.which(PROGRAM) else None
+        if not shutil.which(PROGRAM):
+            raise CheckFault(f"there is no {PROGRAM} on the PATH that judges the site file: name one with --controller, or do without by --no-controller")
+        return PROGRAM
     # a name without a folder is looked up here first, and then on the PATH
     found = next((it for it in (named, os.path.join(os.curdir, named)) if os.sep in it and os.path.isfile(it)), named)
     if not shutil.which(found):
@@ -117,11 +118,10 @@ def ask_controller(program: str, octets: bytes) -> Verdict:
             status, printed, said = run_controller(program, folder, octets)
     except OSError as error:
         raise CheckFault(f"cannot write a copy for {program}: {error.strerror}") from error
-    if status == 0:
-        numbers = [line.split()[1] for line in printed.splitlines() if line.startswith("carrier ") and len(line.split()) == 3]
-        return Verdict(program, None, [int(it) for it in numbers if it.isdecimal()])
+    if status == 0 and printed.startswith("carrier "):
+        return Verdict(program, None)
     if status == 1 and said.startswith(REFUSAL):
-        return Verdict(program, said.removeprefix(REFUSAL).rstrip("\n"), [])
+        return Verdict(program, said.removeprefix(REFUSAL).rstrip("\n"))
     raise CheckFault(f"{program} judged nothing, status {status}: {said.strip()[:200] or 'no message'}")
 
 
@@ -148,22 +148,24 @@ def check_names_alone(options: argparse.Namespace) -> Status:
 
 
 def check_site(options: argparse.Namespace) -> Report:
-    """Checks the site file that the words name. CheckFault: it cannot be read, or the controller that they name is not a program."""
+    """Checks the site file that the words name. CheckFault: it cannot be read, or there is no controller that judges it."""
     names = scan_names(options.names) if options.names is not None else None
     octets = read_site(options.site)
     program = find_controller(options.controller, options.no_controller)
-    document = read_document(octets)
-    name = "<stdin>" if options.site == STANDARD_INPUT else options.site
-    report = Report(name, document, find_faults(document), find_risks(document, Surroundings(has_address, options.link_version)), options.strict)
-    if names:
-        report.names = check_names(names, None if report.faults else Figures(document.values))
-    if options.explain and not document.fault:
-        report.lines = list(explain_site(document.values))
+    site = SiteText.of(octets)
+    report = Report("<stdin>" if options.site == STANDARD_INPUT else options.site, site, find_risks(site, Surroundings(has_address, options.link_version)), options.strict)
     if program:
         try:
             report.verdict = ask_controller(program, octets)
         except CheckFault as fault:
             report.silence = str(fault)
+    if report.fault == NOT_TOML:
+        # it is a fault, and not a risk
+        report.risks = []
+    if names:
+        report.names = check_names(names, None if report.fault or site.fault else Figures(site.values))
+    if options.explain and not site.fault:
+        report.lines = list(explain_site(site.values))
     return report
 
 
@@ -176,8 +178,8 @@ def read_words(words: Sequence[str] | None) -> argparse.Namespace:
     parser.add_argument("--strict", action="store_true", help="warnings count: status 3 if there are any")
     parser.add_argument("--json", action="store_true", help="print the report for machines")
     parser.add_argument("--link-version", type=int, choices=VERSIONS, help="the greatest version of the link that base stations use; warn if the site refuses it")
-    parser.add_argument("--controller", metavar="PROGRAM", help="the controller that has the last word (dmr_trunk on the PATH)")
-    parser.add_argument("--no-controller", action="store_true", help="do not ask a controller")
+    parser.add_argument("--controller", metavar="PROGRAM", help="the controller that judges the file (dmr_trunk on the PATH)")
+    parser.add_argument("--no-controller", action="store_true", help="print warnings alone")
     add_plan_words(parser)
     options = parse_words(parser, words)
     require_plan_words(parser, options)

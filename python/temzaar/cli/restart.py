@@ -101,11 +101,7 @@ def say(line: str) -> None:
 def require_accepted(options: argparse.Namespace) -> Site:
     """The site of the site file. RestartFault: the controller refuses the file, or there is no
     controller that judges it."""
-    program = find_controller(options.controller, False)
-    if program is None:
-        raise RestartFault(f"there is no {PROGRAM} on the PATH that judges the site file: "
-                           "name it with --controller")
-    verdict = ask_controller(program, read_site(options.site))
+    verdict = ask_controller(find_controller(options.controller, False) or PROGRAM, read_site(options.site))
     if verdict.fault is not None:
         raise RestartFault(f"{options.site}: {verdict.words}; dmr_check shows the place")
     say(f"{printable(options.site)}: {printable(verdict.words)}")

@@ -143,7 +143,7 @@ pictures: build/dmr_trunk ## draws the pictures of the example scripts in docs/p
 	for name in queued_call lost_carrier operator; do tools/timeline --site sites/two_carriers.toml --script examples/scripts/$$name.txt --program build/dmr_trunk --out docs/pictures/$$name.svg || exit; done
 
 trusted: ## lists the definitions that a reader has to believe, in docs/TRUSTED.md
-	ci/trusted-definitions >docs/TRUSTED.md
+	ci/trusted-definitions --write
 
 maps: ## draws the maps of the crates and of a connection's states again, in docs/pictures
 	ci/draw-map

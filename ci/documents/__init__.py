@@ -1,1 +1,1 @@
-"""Parts of `ci/check-documents`, which says what is checked: blocks, links to the code, names, and commands."""
+"""Parts of `ci/check-documents`, which says what is checked: blocks, clauses, names, and commands."""

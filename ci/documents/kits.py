@@ -6,7 +6,7 @@ from documents.blocks import DOCUMENTS, TOP
 from toolchain import Named
 
 # the documents that name the logic and the builds, and the one of the past, which may name any
-NAME_THEM = ("README.md", "docs/ASSURANCE.md", "docs/GUARANTEES.md")
+NAME_THEM = ("README.md", "docs/ASSURANCE.md")
 HISTORY = "CHANGELOG.md"
 NAMES = r"`[\w.-]+`(?:(?:, | and )`[\w.-]+`)*"
 

@@ -2,7 +2,6 @@
 import importlib.machinery
 import importlib.util
 import pathlib
-import re
 from types import ModuleType
 from typing import NamedTuple
 
@@ -25,18 +24,8 @@ def load_tool(clone: pathlib.Path) -> ModuleType:
     return tool
 
 
-def without_body(text: str) -> str:
-    """A function's signature and clauses, without its body."""
-    body = re.search(r"\n *\{\n", text)
-    return text[:body.start()] if body else text
-
-
 def read_promises(clone: pathlib.Path) -> list[Promise]:
-    """The functions of `docs/TRUSTED.md`, in its order."""
+    """The main functions, those of `docs/TRUSTED.md`, in its order."""
     tool = load_tool(clone)
-    promises = []
-    for function in tool.PROMISES:
-        crate, _, name = function.partition("::")
-        text, _, says = tool.Source(crate).contract(name)
-        promises.append(Promise(function, says, without_body(text)))
-    return promises
+    found = [(it, tool.Source(it.partition("::")[0]).contract(it.partition("::")[2])) for it in tool.PROMISES]
+    return [Promise(function, tool.first_sentence(it.comment), it.text) for function, it in found]

@@ -160,8 +160,8 @@ def record_of(made: Made, promises: Sequence[Promise]) -> str:
         "", "## The steps", "",
         *table_of(made.steps, made.outcomes), *longer_of(made),
         "", "## What was proved", "",
-        "The gate proved each crate: each function meets its contract, for every input. These are the contracts of the functions that carry the promises. `docs/TRUSTED.md`"
-        " lists the definitions that they depend on, and `docs/GUARANTEES.md` says in words what they mean.", "",
+        "The gate proved each crate: each function meets its contract, for every input. These are the contracts of the functions that carry the promises. `TRUSTED.txt`"
+        " has the definitions that they depend on, and `CLAUSES.txt` each promise of `docs/GUARANTEES.md` with the texts of its clauses.", "",
         *theorems_of(promises),
     ]
     return "\n".join(lines).rstrip("\n") + "\n"

@@ -71,7 +71,7 @@ class Report:
         return self.verdict.fault if self.verdict else None
 
     def fault_detail(self) -> str:
-        """What is known of the fault beside the controller's text: why it is not TOML, or what the key is."""
+        """What is known of the fault in addition to the controller's text: why it is not TOML, or what the key is."""
         name = (self.fault or "").rpartition(" ")[2]
         key = SITE_KEYS.get(name) or CARRIER_KEYS.get(name)
         if key is None:

@@ -134,8 +134,8 @@ class Pages(unittest.TestCase):
             for page, text in pages.items():
                 for target in re.findall(r"\]\(([^)#]+)(?:#[^)]*)?\)", text):
                     self.assertTrue(target.startswith("https://") or (folder / target).is_file(), f"{page}: {target}")
-        self.assertIn("(../crates/", read_document("GUARANTEES.md"))
-        self.assertNotIn("../", pages["GUARANTEES.md"])
+        self.assertIn("(../README.md", read_document("ASSURANCE.md"))
+        self.assertFalse([page for page, text in pages.items() if "](../" in text])
 
     def test_words_that_it_does_not_know(self) -> None:
         done = subprocess.run([TOP / "ci" / "install-pages"], capture_output=True, text=True, check=False)

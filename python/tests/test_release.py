@@ -146,6 +146,27 @@ class Runs(unittest.TestCase):
         self.assertEqual((folder / "dmr_trunk").read_text(encoding="ascii"), "dmr_trunk")
 
 
+class Texts(unittest.TestCase):
+    """The texts that commands of the sources print."""
+
+    def test_written(self) -> None:
+        """Each is what its command prints in the clone. If a command fails, so does the release."""
+        with tempfile.TemporaryDirectory() as room:
+            clone, to = pathlib.Path(room) / "clone", pathlib.Path(room)
+            for name, *_ in command.TEXTS.values():
+                (clone / name).parent.mkdir(parents=True, exist_ok=True)
+                (clone / name).write_text('#!/bin/sh\necho "${0##*/} $*"\n', encoding="ascii")
+                (clone / name).chmod(0o755)
+            command.write_texts(clone, to)
+            self.assertEqual({it: (to / it).read_text(encoding="ascii") for it in command.TEXTS}, {"TRUSTED.txt": "trusted-definitions --sources\n", "CLAUSES.txt": "clauses \n"})
+            (clone / "ci/clauses").write_text("#!/bin/sh\nexit 1\n", encoding="ascii")
+            self.assertRaises(subprocess.CalledProcessError, command.write_texts, clone, to)
+
+    def test_commands_exist(self) -> None:
+        for name, *_ in command.TEXTS.values():
+            self.assertTrue((TOP / name).is_file())
+
+
 class Begins(unittest.TestCase):
     """The folder of a release, at the beginning of a run. The commit is a made one: a checkout may be without git."""
 

@@ -1,0 +1,185 @@
+"""The clauses that promises name: ci/check-documents finds each under its function or definition, and refuses what is not there or is ambiguous; ci/clauses prints them."""
+import contextlib
+import importlib
+import importlib.machinery
+import importlib.util
+import io
+import pathlib
+import sys
+import tempfile
+import unittest
+from unittest import mock
+
+from tests.support import TOP
+
+sys.path.insert(0, str(TOP / "ci"))
+clauses = importlib.import_module("documents.clauses")
+loader = importlib.machinery.SourceFileLoader("print_clauses", str(TOP / "ci/clauses"))
+command = importlib.util.module_from_spec(importlib.util.spec_from_loader("print_clauses", loader))
+loader.exec_module(command)
+
+CODE = """\
+use x::Y;
+
+impl Model for First {
+    ghost view = { λ s. s };
+}
+
+impl First {
+    /// Runs.
+    pub fn run(&self) -> u8
+        requires fit { 0 < 1 }
+        ensures ok { IfOk result
+            (λ r. r ≡ 1) }
+    {
+        1
+    }
+}
+
+impl<T: Keyed<u8>> Wire for Second<T>
+where
+    T: Copy,
+{
+    fn run(&self) -> u8
+        ensures ok { result ≡ 2 }
+        ensures fit { 0 < 1 }
+    {
+        2
+    }
+}
+
+pub trait Wire: Sized {
+    fn run(&self) -> u8
+        ensures ok { 0 < 1 };
+}
+
+/// A law.
+pub fn law()
+    ensures ok { 1 ≡ 1 }
+{}
+
+fn run() -> u8 {
+    3
+}
+"""
+DEFINITIONS = """\
+-- a pair
+pub record Pair (n : ℕ) : Type 0 where
+  -- the first
+  pub ok : n ≡ 1
+      × n ≡ 1
+  pub other : n ≡ 1
+
+-- another
+abbrev pub IsOne : ℕ → Type 0
+IsOne n = Pair n
+
+module _ (n : ℕ) where
+
+  -- inner
+  abbrev pub IsInner : Type 0
+  IsInner = n ≡ 1
+
+  pub record Inner : Type 0 where
+    pub ok : n ≡ 1
+"""
+
+
+class Clauses(unittest.TestCase):
+    """Two crates: `one`, with code and definitions, and `two`, with a law of the same name."""
+
+    def setUp(self) -> None:
+        holder = tempfile.TemporaryDirectory()
+        self.addCleanup(holder.cleanup)
+        self.top = pathlib.Path(holder.name)
+        for path, text in (("one/src/a.rt", CODE), ("one/specs/Pairs.antt", DEFINITIONS), ("two/src/b.rt", "pub fn law()\n    ensures ok { 2 ≡ 2 }\n{}\n")):
+            (self.top / "crates" / path).parent.mkdir(parents=True)
+            (self.top / "crates" / path).write_text(text, encoding="utf-8")
+        self.page = self.top / "docs/GUARANTEES.md"
+        self.page.parent.mkdir()
+        for module, names in ((clauses, {"TOP": self.top, "PROMISES": self.page}), (command, {"TOP": self.top, "PROMISES": self.page})):
+            replaced = mock.patch.multiple(module, **names)
+            replaced.start()
+            self.addCleanup(replaced.stop)
+        clauses.all_items.cache_clear()
+        self.addCleanup(clauses.all_items.cache_clear)
+
+    def lines_of(self, *names: str) -> list[list[int]]:
+        """The lines that each name is found at, counted from 1."""
+        return [[line + 1 for _, line in clauses.find(name).places] for name in names]
+
+    def faults(self, text: str) -> list[str]:
+        """The faults of a page of promises."""
+        self.page.write_text(text, encoding="utf-8")
+        return list(clauses.clause_faults(self.page))
+
+    def test_functions(self) -> None:
+        self.assertEqual(self.lines_of("First::run.ok", "First::run.fit", "Second::run.fit", "Wire::run.ok", "First::run"), [[11], [10], [24], [32], [9]])
+        # without a type it is the function that no type has, and its crate or file may be before it
+        self.assertEqual(self.lines_of("run", "one::law.ok", "a::law", "one::First::run", "a::First::run"), [[40], [37], [36], [9], [9]])
+
+    def test_types_and_definitions(self) -> None:
+        self.assertEqual(self.lines_of("Wire", "Pair.ok", "Pair.other", "IsOne", "Pairs::IsOne", "one::Pair"), [[30], [4], [6], [9], [9], [2]])
+        # those of a module are further in
+        self.assertEqual(self.lines_of("IsInner", "Inner", "Inner.ok", "module"), [[15], [18], [19], []])
+
+    def test_nothing_there(self) -> None:
+        self.assertEqual(self.lines_of("First::run.no", "Third::run", "two::run", "Pair.no", "IsOne.ok", "run.ok"), [[]] * 6)
+
+    def test_texts(self) -> None:
+        for name, text in (("First::run.ok", "        ensures ok { IfOk result\n            (λ r. r ≡ 1) }"), ("Pair.ok", "  pub ok : n ≡ 1\n      × n ≡ 1"),
+                           ("law", None), ("one::law", "pub fn law()\n    ensures ok { 1 ≡ 1 }"), ("Wire::run", "    fn run(&self) -> u8\n        ensures ok { 0 < 1 };"),
+                           ("Wire", "pub trait Wire: Sized {\n    fn run(&self) -> u8\n        ensures ok { 0 < 1 };\n}"), ("IsOne", "abbrev pub IsOne : ℕ → Type 0\nIsOne n = Pair n"),
+                           ("IsInner", "  abbrev pub IsInner : Type 0\n  IsInner = n ≡ 1"), ("Inner", "  pub record Inner : Type 0 where\n    pub ok : n ≡ 1"),
+                           ("Pair", DEFINITIONS.partition("\n")[2].partition("\n\n")[0])):
+            with self.subTest(name):
+                found = clauses.find(name)
+                self.assertEqual([item.text_from(line) for item, line in found.places] if text else len(found.places), [text] if text else 2)
+
+    def test_promises(self) -> None:
+        """A span may have several names, one that begins with a point is of the item before, one with colons of its type, and what follows "Not said" carries nothing."""
+        page = "# Page\n\n- **One.** It runs. *By* `First::run.ok .fit ::run.ok`, with\n  `Pair.ok`, `.other`. *Not said*: `nothing`.\n- **Two.** More. *By* `one::law`.\n\nSee `law`.\n"
+        self.assertEqual(self.faults(page), [])
+        self.assertEqual([(it.name, [name.name for name in it.carried]) for it in clauses.read_promises(page)],
+                         [("One", ["First::run.ok", "First::run.fit", "First::run.ok", "Pair.ok", "Pair.other"]), ("Two", ["one::law"])])
+
+    def test_refusals(self) -> None:
+        for words, fault in (("It runs.", "One: it names no clause"), ("*By* reading.", "One: it names no clause"), ("It is `law`. *Not said*: `law`.", "One: it names no clause"),
+                             ("*By* `First::run.gone`.", "One: there is no First::run.gone"), ("*By* `First::run .gone`.", "One: there is no First::run.gone"),
+                             ("*By* `law.ok`.", "One: law.ok is ambiguous: crates/one/src/a.rt:37, crates/two/src/b.rt:2; write its type, crate or file before it"),
+                             ("*By* `run`.\n- **One.** *By* `run`.", "two promises are called One")):
+            with self.subTest(words):
+                self.assertEqual(self.faults(f"- **One.** {words}\n"), [f"docs/GUARANTEES.md: {fault}"])
+
+    def test_other_documents_promise_nothing(self) -> None:
+        other = self.top / "docs/OTHER.md"
+        other.write_text("- **One.** It runs.\n", encoding="utf-8")
+        self.assertEqual(list(clauses.clause_faults(other)), [])
+
+    def test_shown_definitions(self) -> None:
+        block = f"<!-- check: definition Pair of crates/one/specs/Pairs.antt -->\n```\n{DEFINITIONS.split(chr(10), 1)[1].split(chr(10) * 2)[0]}\n```\n"
+        self.assertEqual(self.faults(block), [])
+        for wrong in (block.replace("n ≡ 1", "n ≡ 2"), block.replace("definition Pair", "definition None")):
+            self.assertEqual(len(self.faults(wrong)), 1)
+
+    def test_command(self) -> None:
+        self.page.write_text("- **It runs.** Always. *By* `First::run.fit`.\n- **A law.** It holds. *By* `two::law`.\n", encoding="utf-8")
+        law = "\n## A law\n\nIt holds. *By* `two::law`.\n\ntwo::law, crates/two/src/b.rt:1\npub fn law()\n    ensures ok { 2 ≡ 2 }\n"
+        runs = "\n## It runs\n\nAlways. *By* `First::run.fit`.\n\nFirst::run.fit, crates/one/src/a.rt:10\n        requires fit { 0 < 1 }\n"
+        for words, printed in (("", runs + law), ("a law", law), ("two", law), ("Pair.other", "\nPair.other, crates/one/specs/Pairs.antt:6\n  pub other : n ≡ 1\n"), ("nothing", "")):
+            with self.subTest(words), contextlib.redirect_stdout(io.StringIO()) as out, contextlib.redirect_stderr(io.StringIO()) as err:
+                self.assertEqual(command.main(words), 0 if printed else 1)
+                self.assertEqual((out.getvalue(), err.getvalue()), (printed, "" if printed else "ci/clauses: no promise and no code has the name nothing\n"))
+
+
+class Promises(unittest.TestCase):
+    """The promises of this repository."""
+
+    def test_each_crate_is_named(self) -> None:
+        """The section "By crate" names each crate that is not one of tests."""
+        section = (TOP / "docs/GUARANTEES.md").read_text(encoding="utf-8").partition("\n## By crate\n")[2].partition("\n## ")[0]
+        self.assertEqual([it.name for it in sorted((TOP / "crates").glob("dmr_*")) if f"`{it.name}`" not in section], [])
+
+
+if __name__ == "__main__":
+    unittest.main()

@@ -1,0 +1,122 @@
+"""The list of definitions that a reader has to believe: ci/trusted-definitions has a line for each file, with the names on it, and refuses a list that is not so."""
+import importlib
+import importlib.machinery
+import importlib.util
+import pathlib
+import tempfile
+import unittest
+from unittest import mock
+
+from tests.support import TOP
+
+loader = importlib.machinery.SourceFileLoader("trusted_definitions", str(TOP / "ci/trusted-definitions"))
+tool = importlib.util.module_from_spec(importlib.util.spec_from_loader("trusted_definitions", loader))
+loader.exec_module(tool)
+clauses = importlib.import_module("documents.clauses")
+
+CODE = """\
+ghost use Rattle.one.specs.Numbers.{IsSmall};
+ghost use Rattle.one.specs.declared.lib.Kind.{Kind};
+
+/// A kind.
+pub struct Kind {
+    pub it: u8,
+}
+
+/// Counts. It never fails.
+pub fn count(kind: &Kind) -> u8
+    ensures is { IsSmall result }
+{
+    1
+}
+"""
+NUMBERS = """\
+-- Small numbers. More of them.
+use Rattle.std.specs.Prelude.{ℕ}
+
+-- the greatest
+most : ℕ
+most = 7
+
+-- small
+IsSmall : ℕ → Type 0
+IsSmall n = n ≤ most
+
+-- not used
+other : ℕ
+other = 1
+"""
+PAGE = """
+## `one::count`
+Counts. Its contract depends on 2 definitions. Those not listed above: 2, of 6 lines.
+
+- `one/specs/Numbers.antt` (2): most, IsSmall
+- `one/src` (1, types and traits of the code): Kind
+
+2 definitions of the 3 in `specs/`, 6 lines; 1 types; 0 traits; 0 words of the library.
+"""
+TEXT = """\
+- `one/specs/Numbers.antt` (2): most, IsSmall
+
+Small numbers.
+
+```
+-- the greatest
+most : ℕ
+most = 7
+
+-- small
+IsSmall : ℕ → Type 0
+IsSmall n = n ≤ most
+```
+"""
+
+
+class Trusted(unittest.TestCase):
+    """A crate with a function, a type and three definitions."""
+
+    def setUp(self) -> None:
+        holder = tempfile.TemporaryDirectory()
+        self.addCleanup(holder.cleanup)
+        self.top = pathlib.Path(holder.name)
+        for path, text in (("crates/one/src/lib.rt", CODE), ("crates/one/specs/Numbers.antt", NUMBERS), ("crates.txt", "one:\n")):
+            (self.top / path).parent.mkdir(parents=True, exist_ok=True)
+            (self.top / path).write_text(text, encoding="utf-8")
+        for replaced in (mock.patch.multiple(tool, CRATES=self.top / "crates", DOCUMENT=self.top / "TRUSTED.md", SHORT=self.top / "ASSURANCE.md"), mock.patch.object(clauses, "TOP", self.top)):
+            replaced.start()
+            self.addCleanup(replaced.stop)
+        clauses.all_items.cache_clear()
+        self.addCleanup(clauses.all_items.cache_clear)
+        (self.top / "TRUSTED.md").write_text("# Head\n\nThe functions: `none`.\n", encoding="utf-8")
+
+    def printed(self, sources: bool = False) -> str:
+        """What is printed of the function."""
+        return str(tool.page_of(tool.Reader(), ["one::count"], sources))
+
+    def faults(self, page: str, short: str) -> list[str]:
+        """The faults of a list, and of the page that has its counts."""
+        reader = tool.Reader()
+        reader.follow_function("one::count")
+        (self.top / "TRUSTED.md").write_text(page, encoding="utf-8")
+        (self.top / "ASSURANCE.md").write_text(short, encoding="utf-8")
+        return tool.faults_of(reader, "the list")
+
+    def test_a_line_for_each_file(self) -> None:
+        """A definition comes after those that it uses. Its text is printed on demand, with the comments."""
+        self.assertEqual(self.printed(), f"# Head\n\nThe functions: `one::count`.\n{PAGE}")
+        self.assertIn(TEXT, self.printed(True))
+        self.assertIn("```\n/// A kind.\npub struct Kind {\n", self.printed(True))
+
+    def test_a_new_definition_shows(self) -> None:
+        path = self.top / "crates/one/specs/Numbers.antt"
+        path.write_text(NUMBERS.replace("n ≤ most", "n ≤ most + other"), encoding="utf-8")
+        self.assertIn("- `one/specs/Numbers.antt` (3): most, other, IsSmall\n", self.printed())
+
+    def test_refusals(self) -> None:
+        self.assertEqual(self.faults("the list", "It is of 2 definitions\nof 6 lines."), [])
+        self.assertEqual(self.faults("another", "2 definitions of 6 lines"), ["docs/TRUSTED.md is not what ci/trusted-definitions prints"])
+        self.assertEqual(self.faults("the list", "3 definitions of 6 lines"), ['docs/ASSURANCE.md has to say "2 definitions of 6 lines"'])
+
+
+if __name__ == "__main__":
+    unittest.main()

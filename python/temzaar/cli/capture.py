@@ -9,12 +9,12 @@ on, both ways, until Ctrl-C, SIGTERM, the end of its terminal, or --seconds. The
 what was sent, as a replay prints it. The controller ends with the tool. With --running the controller is one that runs already: its site file is this one
 except for its ports, which are higher by --shift. The site must be empty then: no carrier, no radio and no call.
 
-While it records, each piece is appended to the script at once, with even ticks. If the tool is killed or the disk is full, the script has all that was
-recorded; --unfinished reads it and searches for the ticks.
+While it records, each piece is appended to the script at once, with even ticks, and with its time and its answer as comments. If the tool is killed or the disk
+is full, the script has all that was recorded; --unfinished reads it and searches for the ticks.
 
-With --pcap it reads a file that tcpdump or Wireshark wrote, and nothing has to be between base station and controller. The file is pcap or pcapng,
-with Ethernet, Linux cooked, raw IP or loopback packets, IPv4 or IPv6. The tool puts the TCP streams together again, and names each gap and its place.
-The capture has to begin before the first carrier connects to an empty site.
+With --pcap it reads a file that tcpdump or Wireshark wrote, and nothing has to be between base station and controller. The file is pcap or pcapng, with
+Ethernet, Linux cooked, raw IP or loopback packets, IPv4 or IPv6. The tool puts the TCP streams together again: it drops retransmissions, restores the order,
+and names each gap and its place. The capture has to begin before the first carrier connects to an empty site.
 
 What is certain. Recorded live, each piece is handed to the controller only after the piece before it is answered. So the script has them in the site's
 order. Frames without an answer (RX, ACTIVE) wait for the next frame that has one. After a fifth of a second they go alone; then their
@@ -24,8 +24,9 @@ with 'replays to the same octets', it has replayed the script and compared every
 What is not certain. The site's ticks cannot be seen. The tool places the script's ticks so that the answers are the same. If no answer shows the
 difference, a tick may have fallen elsewhere. What was on the site before is not in the script. A second Ctrl-C ends the search for the ticks.
 
-Status: 0 the script replays to the same octets; 1 a file, a full disk, a port or the controller, named on standard error; 2 the words; 3 a script was
-written, but it replays to other octets, the controller ended by itself, or the packet capture has gaps: the tool prints which.
+Status: 0 the script replays to the same octets; 1 a file, a full disk, a port or the controller was at fault. Standard error says which; 2 the words; 3 the
+script was written, but no placing of the ticks leads to the same octets. Or the controller ended by itself, or the packet capture has gaps: the tool prints
+which.
 """
 import argparse
 import os
@@ -211,11 +212,11 @@ def read_words(words: Sequence[str] | None) -> argparse.Namespace:
     """The words of the command line."""
     parser = argparse.ArgumentParser(description=__doc__, formatter_class=argparse.RawDescriptionHelpFormatter)
     parser.add_argument("--site", required=True, help="the site file")
-    parser.add_argument("--program", required=True, help="the controller: to be started (but with --running), and to replay")
+    parser.add_argument("--program", required=True, help="the controller: to be started and recorded (but with --running), and to replay")
     parser.add_argument("--out", required=True, help="the script")
     parser.add_argument("--running", action="store_true", help="the controller runs already, on loopback")
     parser.add_argument("--shift", type=count_of(1, MOST_PORT), default=10000, help="how much higher the controller's ports are (10000)")
-    parser.add_argument("--seconds", type=amount_above(0), default=float("inf"), help="for how long; without it, until Ctrl-C")
+    parser.add_argument("--seconds", type=amount_above(0), default=float("inf"), help="for how long to record, before the search for the ticks; without it, until Ctrl-C")
     which = parser.add_mutually_exclusive_group()
     which.add_argument("--pcap", metavar="FILE", help="read this packet capture, and listen to nothing")
     which.add_argument("--unfinished", metavar="FILE", help="read this script of a recording that was killed, and search for its ticks")

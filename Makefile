@@ -1,6 +1,6 @@
 # `make` alone says what there is.
 .DEFAULT_GOAL := help
-.PHONY: help run demo build build-tests check fmt test gate check-fast check-programs tools-check wrong-bodies bench bench-instructions station soak wrong-rules serve-check serve-hostile hub-hostile network-recipes unit-recipes restart refuse-memory pictures package package-check release release-long maps trusted install
+.PHONY: help run demo build build-tests check fmt test gate check-fast check-programs tools-check wrong-bodies bench bench-instructions station soak wrong-rules serve-check serve-hostile hub-hostile network-recipes unit-recipes restart refuse-memory pictures package package-check release release-long maps trusted manual install
 
 PREFIX ?= /usr/local
 DESTDIR ?=
@@ -148,6 +148,9 @@ trusted: ## lists the definitions that a reader has to believe, in docs/TRUSTED.
 maps: ## draws the maps of the crates and of a connection's states again, in docs/pictures
 	ci/draw-map
 
+manual: ## writes the manual pages below build/man, to be read with man -l build/man/man8/dmr_trunk.8
+	ci/write-manual build/man
+
 package: build/dmr_trunk build/dmr_decode ## a Debian package of the proved programs, at build/dmr-trunk_VERSION_ARCH.deb
 	ci/package $(VERSION)
 
@@ -171,7 +174,7 @@ install: build/dmr_trunk build/dmr_decode ## the programs, tools, headers for ba
 	install -m 644 python/temzaar/hub/*.py $(DESTDIR)$(PYTHON_LIB)/temzaar/hub
 	install -m 644 python/temzaar/hub/page/* $(DESTDIR)$(PYTHON_LIB)/temzaar/hub/page
 	for tool in siteview timeline callbook archive carriers conform check restart hub console; do sed -e "s|@TOOL@|$$tool|" -e 's|@PYTHON_LIB@|$(PYTHON_LIB)|' python/launcher.in >$(DESTDIR)$(PREFIX)/bin/dmr_$$tool && chmod 755 $(DESTDIR)$(PREFIX)/bin/dmr_$$tool || exit; done
-	for section in 1 5 8; do install -d $(DESTDIR)$(MAN)/man$$section && for page in deploy/man/*.$$section; do sed -e 's|@VERSION@|$(VERSION)|' -e 's|@PREFIX@|$(PREFIX)|' $$page >$(DESTDIR)$(MAN)/man$$section/$${page##*/} || exit; done || exit; done
+	python3 ci/write-manual --prefix $(PREFIX) $(DESTDIR)$(MAN)
 	install -d $(DESTDIR)$(PREFIX)/include/dmr_trunk $(DESTDIR)$(DOC)/examples/station
 	install -m 644 station/*.h $(DESTDIR)$(PREFIX)/include/dmr_trunk
 	install -m 644 station/README.md station/*.c $(DESTDIR)$(DOC)/examples/station

@@ -1,5 +1,5 @@
 /*
- * The link of a site in plain C (docs/FORMATS.md, "Link frames"): octets of carriers to events, and answers to octets, in
+ * The link of a site in plain C (docs/LINK.md, "Frames"): octets of carriers to events, and answers to octets, in
  * both versions. A whole frame is read in place; a part of one is kept.
  *
  * It writes to a buffer of the caller, and checks no room: a poll writes 58 octets at most in version 1, 60 in version 2.

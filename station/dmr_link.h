@@ -1,8 +1,9 @@
 /*
- * The carrier's half of the link between a base station (a carrier) and the site controller: octets in, events out, frames
- * to write. C99, no allocation, no input or output, no clock; <stddef.h>, <stdint.h>, <string.h>. Sockets and timers are the
- * caller's; station/example.c is a whole client. The link is this project's own profile. docs/LINK.md says more of it, and
- * has a table of what to test; this file has all that a client needs. It is tested against the controller. It is not proved.
+ * The carrier's half of the link between a carrier, one channel of a base station, and the site controller: octets in, events out,
+ * frames to write. A base station with several channels has a link for each. C99, no allocation, no input or output, no clock;
+ * <stddef.h>, <stdint.h>, <string.h>. Sockets and timers are the caller's; station/example.c is a whole client of one carrier. The
+ * link is this project's own profile. docs/LINK.md says more of it, and has a table of what to test; this file has all that a
+ * client needs. It is tested against the controller. It is not proved.
  *
  * Ask the operator of the site for the controller's address and port, and for the greatest version of the link that the site serves
  * (1 or 2). Also for the number of the carrier (0 to 15), and its LPCN (the logical physical channel number, 1 to 4094).

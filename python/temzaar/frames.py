@@ -1,4 +1,4 @@
-"""The frames of the link (docs/FORMATS.md, "Link frames"), in both versions: how they are written, cut from a stream, and numbered.
+"""The frames of the link (docs/LINK.md, "Frames"), in both versions: how they are written, cut from a stream, and numbered.
 
 The versions differ in RX and TX alone, which have a number in version 2. One cutter serves both directions: the first frame of a stream has the
 version, a HELLO towards the controller and a WELCOME towards the carrier.

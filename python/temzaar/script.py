@@ -1,4 +1,4 @@
-"""Scripts and printed replays (docs/FORMATS.md, "Scripts", "Link sessions"): which answer belongs to which poll, and when."""
+"""Scripts and printed replays (docs/FORMATS.md, "Scripts"; docs/LINK.md): which answer belongs to which poll, and when."""
 import re
 from collections import deque
 from collections.abc import Iterable

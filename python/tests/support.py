@@ -1,12 +1,16 @@
 """The parts that tests share: the repository's files, the controller's programs, and readers of the documents."""
+import atexit
 import contextlib
+import functools
 import io
 import os
 import pathlib
 import re
+import shutil
 import signal
 import subprocess
 import sys
+import tempfile
 import unittest
 from collections.abc import Callable
 
@@ -58,6 +62,15 @@ def tool_words(name: str, *words: str) -> list[str]:
     return [sys.executable, str(TOP / "tools" / name), *words]
 
 
+@functools.cache
+def manual_pages() -> dict[str, pathlib.Path]:
+    """The manual pages, by their names, as `make install` writes them; once for all tests of a process."""
+    folder = tempfile.mkdtemp()
+    atexit.register(shutil.rmtree, folder)
+    subprocess.run([sys.executable, str(TOP / "ci" / "write-manual"), folder], check=True)
+    return {it.name: it for it in sorted(pathlib.Path(folder).glob("man?/*"))}
+
+
 def read_document(name: str) -> str:
     """The text of a document in docs/."""
     return (TOP / "docs" / name).read_text(encoding="utf-8")
@@ -73,3 +86,12 @@ def table_rows(text: str, heading: str) -> list[list[str]]:
             break
         rows.append([re.sub(r"`", "", cell).strip() for cell in line.strip("|").split("|")])
     return rows
+
+
+def metric_rows(text: str) -> list[tuple[str, str, set[str]]]:
+    """The metrics of docs/HUB.md: the name, the type and the labels of each. A row may have several, each with its labels in brackets."""
+    found = []
+    for row in table_rows(text, "| metrics, with their labels"):
+        for name, labels in re.findall(r"(\w+)(?: \(([\w, ]+)\))?(?:, |$)", row[0]):
+            found.append((name, row[1], set(filter(None, labels.split(", ")))))
+    return found

@@ -10,7 +10,7 @@ from typing import Any
 
 from tests.hub_support import wait_until
 from tests.made_records import make_records
-from tests.support import TOP, read_document, table_rows
+from tests.support import TOP, metric_rows, read_document, table_rows
 from tests.test_hub_web import WebCase
 
 RULES = TOP / "deploy" / "prometheus" / "dmr_site.rules.yml"
@@ -18,8 +18,9 @@ TESTS = TOP / "deploy" / "prometheus" / "dmr_site.test.yml"
 DASHBOARD = TOP / "deploy" / "grafana" / "dmr_site.json"
 ALARMS = read_document("ALARMS.md")
 # The metrics of the hub with their labels, and the one that Prometheus adds of its own.
-LABELS = {row[0]: set(filter(None, row[2].split(", "))) for row in table_rows(read_document("HUB.md"), "| metric | type")}
-HISTOGRAMS = [row[0] for row in table_rows(read_document("HUB.md"), "| metric | type") if row[1] == "histogram"]
+METRICS = metric_rows(read_document("HUB.md"))
+LABELS = {name: labels for name, _, labels in METRICS}
+HISTOGRAMS = [name for name, kind, _ in METRICS if kind == "histogram"]
 METRICS = {**LABELS, "up": set(), **{f"{name}_bucket": {"le"} for name in HISTOGRAMS}}
 # Labels that each series has in Prometheus, the last one if the target has it (HUB.md, "Metrics").
 OF_PROMETHEUS = {"job", "instance", "site"}

@@ -168,7 +168,7 @@ class Ended(unittest.TestCase):
             done = call_tool(main, *words, "--help")
             self.assertEqual((done.returncode, done.stderr), (0, ""), tool)
             self.assertRegex(done.stdout, r"(?s)^usage: .*(?:--site|SITE_FILE|--config|--socket|--records)")
-            self.assertIn("Status:" if tool != "carriers" else "The status is", done.stdout)
+            self.assertIn("\nStatus: 0 ", done.stdout)
         self.assertFalse(os.path.exists(self.names["out"]))
 
     def test_no_words(self) -> None:

@@ -5,9 +5,9 @@ import shutil
 import subprocess
 import unittest
 
-TOP = pathlib.Path(__file__).resolve().parent.parent.parent
+from tests.support import TOP, manual_pages
+
 FILE = TOP / "deploy" / "completion" / "dmr.bash"
-MANUAL = TOP / "deploy" / "man"
 COMMANDS = ("dmr_trunk", "dmr_decode", "dmr_siteview", "dmr_timeline", "dmr_callbook", "dmr_archive", "dmr_carriers", "dmr_conform", "dmr_check", "dmr_restart", "dmr_hub", "dmr_console")
 
 
@@ -20,8 +20,8 @@ def completed(words: list[str], within: pathlib.Path = TOP) -> list[str]:
 
 def options_in_manual(command: str) -> set[str]:
     """The long options that a command's manual page names, its own: not those of other commands in examples."""
-    page = next(it for it in MANUAL.iterdir() if it.stem == command and it.suffix in (".1", ".8"))
-    text = page.read_text(encoding="utf-8").replace("\\-", "-")
+    page = next(path for name, path in manual_pages().items() if name in (f"{command}.1", f"{command}.8"))
+    text = re.sub(r"\\f[BIR]", "", page.read_text(encoding="utf-8").replace("\\-", "-"))
     part = re.search(r"^\.SH OPTIONS\n(.*?)(?=^\.SH )", text, re.M | re.S) or re.search(r"^\.SH SYNOPSIS\n(.*?)(?=^\.SH DESCRIPTION)", text, re.M | re.S)
     assert part
     return set(re.findall(r"(?<![\w-])--[a-z][a-z-]*", part[1]))

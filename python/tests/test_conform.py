@@ -137,11 +137,12 @@ class Clients(unittest.TestCase):
         """It retransmits nothing. What docs/LINK.md shows is what was seen, but for counts and times."""
         said = joined(kits_example())
         self.assert_passed(said, ROWS, {"transmits", "again"})
-        shown = LINK[LINK.index("$ tools/conform"):LINK.index("The tool fills in")].splitlines()[1:]
-        lines = [f"{row:9}  {said[row][0]:9}  {said[row][1]}" for row in ROWS]
-        masked = [re.sub(r"\d+(\.\d+)?", "N", line.strip()) for line in (*shown[:len(ROWS)], *lines)]
-        self.assertEqual(masked[:len(ROWS)], masked[len(ROWS):])
-        self.assertEqual(shown[len(ROWS)], "    17 passed, 0 failed, 2 not tried")
+        shown = [line.strip() for line in LINK[LINK.index("$ tools/conform"):LINK.index("The tool fills in")].splitlines()[1:] if line.strip() not in ("", "..")]
+        lines = [f"{row:9}  {said[row][0]:9}  {said[row][1]}" for row in ROWS if row in {line.split()[0] for line in shown[:-1]}]
+        masked = [[re.sub(r"\d+(\.\d+)?", "N", line) for line in some] for some in (shown[:-1], lines)]
+        self.assertEqual(masked[0], masked[1])
+        self.assertGreaterEqual(len(lines), 5)
+        self.assertEqual(shown[-1], f"{len(ROWS) - 2} passed, 0 failed, 2 not tried")
 
 
 def open_at_once(path: str, flags: int) -> int:

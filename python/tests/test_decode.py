@@ -239,7 +239,7 @@ class Judged(unittest.TestCase):
 
     def test_the_example_of_the_help(self) -> None:
         """The PDU that help and manual page show registers a radio at a site with `leave_bit`."""
-        page = (TOP / "deploy" / "man" / "dmr_decode.1").read_text(encoding="utf-8").replace("\\-", "-")
+        page = (TOP / "deploy" / "man" / "dmr_decode.1.md").read_text(encoding="utf-8")
         for text in (self.ask("--help").stdout, page):
             shown = re.search(r"^ +dmr_decode (write C_RAND .*)$", text, re.M)
             assert shown

@@ -57,7 +57,9 @@ class Table(unittest.TestCase):
     """The lengths are the document's."""
 
     def test_lengths(self) -> None:
-        for name, octet, length, _ in table_rows(read_document("FORMATS.md"), "| frame | type"):
+        rows = table_rows(read_document("LINK.md"), "## Frames")
+        self.assertEqual({row[0].partition(",")[0] for row in rows}, {kind.name for kind in FrameType})
+        for name, _, octet, length, *_ in rows:
             kind = FrameType[name.partition(",")[0]]
             versions = [int(name[-1]) - 1] if "version" in name else [0, 1]
             self.assertEqual(int(octet, 16), kind)

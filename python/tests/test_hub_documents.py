@@ -1,4 +1,4 @@
-"""The hub's documents and files: docs/HUB.md has its keys and metrics, and deploy/ its config file and unit."""
+"""The hub's documents and files: docs/HUB.md has its metrics, and deploy/ its config file, with each key, and its unit."""
 import dataclasses
 import pathlib
 import re
@@ -20,36 +20,27 @@ from temzaar.hub.session import HELP
 from temzaar.names import MOST_PRINTED, NO_NAMES
 from tests.hub_support import HubCase, wait_until
 from tests.made_records import make_records
-from tests.support import TOP, read_document, table_rows
+from tests.support import TOP, metric_rows, read_document, table_rows
 
 HUB = read_document("HUB.md")
 SECTIONS = {field.name: type(field.default) for field in dataclasses.fields(Config)}
-
-
-def default_text(value: object) -> str:
-    """The value of a missing key, as the document writes it."""
-    if value == ():
-        return "none"
-    if value == "":
-        return '""'
-    if isinstance(value, tuple):
-        return "[" + ", ".join(f'"{it}"' for it in value) + "]"
-    return f"{value:g}" if isinstance(value, float) else str(value)
 
 
 class Documented(unittest.TestCase):
     """The document, the config file and the unit."""
 
     def test_keys(self) -> None:
-        self.assertEqual(re.findall(r"^\*\*`\[(\w+)\]`\*\*", HUB, re.M), [*SECTIONS])
+        """deploy/hub.toml says of each key what it is, and its range, and of each section what it is for."""
+        lines = (TOP / "deploy" / "hub.toml").read_text(encoding="utf-8").splitlines()
         for name, section in SECTIONS.items():
-            rows = table_rows(HUB, f"**`[{name}]`**")
-            fields = dataclasses.fields(section)
-            self.assertEqual([row[0] for row in rows], [field.name for field in fields])
-            for row, field in zip(rows, fields, strict=True):
-                says = field.metadata["kind"].says
-                self.assertIn(row[1], (says, f"{says} s"), field.name)
-                self.assertEqual((row[2], row[3]), (default_text(field.default), field.metadata["about"].replace("`", "")), field.name)
+            at = lines.index(f"[{name}]")
+            self.assertEqual(lines[at - 1], f"# {section.__doc__}")
+            for field in dataclasses.fields(section):
+                at = next(n for n in range(at, len(lines)) if lines[n].startswith(f"{field.name} = "))
+                begins = next(n for n in range(at, 0, -1) if not lines[n - 1].startswith("#"))
+                unit = " s" if field.name.endswith("_seconds") else ""
+                about = field.metadata["about"]
+                self.assertTrue(lines[begins].startswith(f"# {about[:1].upper()}{about[1:]}: {field.metadata['kind'].says}{unit}."), (field.name, lines[begins]))
 
     def test_the_config_file_has_every_key(self) -> None:
         text = (TOP / "deploy" / "hub.toml").read_text(encoding="utf-8")
@@ -63,8 +54,8 @@ class Documented(unittest.TestCase):
 
     def test_the_page(self) -> None:
         """Queries, keys and figures of the page's paths, and how much memory they take."""
-        for title, kinds in (("", CALL_KEYS), (" of radios", RADIO_KEYS), (" of names", NAME_KEYS)):
-            self.assertEqual([(row[0], row[1]) for row in table_rows(HUB, f"| key of the query{title} |")], [(name, kind.says) for name, kind in kinds.items()])
+        queries = [(title, name, kind.says) for title, kinds in (("radios", RADIO_KEYS), ("names", NAME_KEYS), ("calls", CALL_KEYS)) for name, kind in kinds.items()]
+        self.assertEqual([tuple(row[:3]) for row in table_rows(HUB, "| query of | key")], queries)
         self.assertEqual([row[0] for row in table_rows(HUB, "| figure | what it is")], [*FIGURES])
         self.assertEqual([name for row in table_rows(HUB, "| count | what it is") for name in row[0].split(", ")], [*KINDS])
         call = call_view(SeenCall(1, (0, 1), Parties("group", 91, 1001), Moment(0, 0), False), NO_NAMES)
@@ -120,9 +111,10 @@ class Metrics(HubCase):
         await wait_until(lambda: hub.model.picture is not None and hub.records and hub.records.last)
         series = hub.views.all_series()
         shown = [(it.name, "histogram" if isinstance(it, Histogram) else it.kind) for it in series]
-        rows = table_rows(HUB, "| metric | type")
-        self.assertEqual([(row[0], row[1]) for row in rows], shown)
-        labels = {row[0]: set(filter(None, row[2].split(", "))) for row in rows}
+        rows = metric_rows(HUB)
+        self.assertEqual({name: kind for name, kind, _ in rows}, dict(shown))
+        self.assertEqual(len(rows), len(shown))
+        labels = {name: used for name, _, used in rows}
         for it in series:
             if not isinstance(it, Histogram):
                 for used in it.values:

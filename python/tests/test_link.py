@@ -1,4 +1,4 @@
-"""docs/LINK.md: its frames, charts and bursts are those of docs/FORMATS.md and of the code, and a carrier sees what it says."""
+"""docs/LINK.md: its frames and charts are those of the code, its bursts those of docs/FORMATS.md, and a carrier sees what it says."""
 import os
 import re
 import tempfile
@@ -43,9 +43,8 @@ def replayed(script: list[str], **changes: int) -> bytes:
 class Tables(unittest.TestCase):
     """Frames, examples, bits and bursts."""
 
-    def test_frames_are_those_of_the_formats(self) -> None:
-        ours = {name: (kind, length) for name, _, kind, length, *_ in table_rows(LINK, "## Frames")}
-        self.assertEqual(ours, {name: (kind, length) for name, kind, length, _ in table_rows(FORMATS, "| frame | type")})
+    def test_frames(self) -> None:
+        """Their lengths are those of the code, as test_frames says."""
         for name, sender, kind, length, *_, octets in table_rows(LINK, "## Frames"):
             self.assertEqual(int(octets), 2 + int(length, 16), name)
             self.assertEqual(sender, "carrier" if FrameType(int(kind, 16)) in FROM_CARRIER else "controller", name)

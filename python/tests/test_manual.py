@@ -1,29 +1,31 @@
-"""The manual pages in deploy/man: their form, and that they say of options, statuses and keys what the programs and the documents say."""
+"""The manual pages, as `ci/write-manual` writes them: their form, and that they have the options, statuses, keys, messages and commands of the programs and documents."""
+import functools
+import importlib.machinery
+import importlib.util
 import os
+import pathlib
 import re
 import shlex
 import shutil
 import subprocess
+import sys
 import tempfile
 import unittest
 from typing import NamedTuple
 
-from tests.support import TOP, program, read_document, run_tool, table_rows
+from tests.support import TOP, manual_pages, program, read_document, run_tool, table_rows
 from tests.test_messages import as_pattern, messages
 
-MAN = TOP / "deploy" / "man"
-PAGES = sorted(it.name for it in MAN.iterdir())
+WRITE = TOP / "ci" / "write-manual"
 TOOLS = ("siteview", "timeline", "callbook", "archive", "carriers", "conform", "check", "restart", "console", "hub")
 PAGE_OF = {tool: f"dmr_{tool}.{8 if tool in ('hub', 'archive', 'restart') else 1}" for tool in TOOLS}
 WANTED = {"dmr_trunk.8", "dmr_trunk.5", "dmr_decode.1", *PAGE_OF.values()}
 # The order of sections; a page leaves out those that do not apply.
 ORDER = ("NAME", "SYNOPSIS", "DESCRIPTION", "COMMANDS", "OPTIONS", "JUDGEMENTS", "JOURNAL", "CONSOLE", "SIGNALS", "EXIT STATUS", "DIAGNOSTICS", "ENVIRONMENT", "FILES", "SECURITY", "EXAMPLES", "SEE ALSO")
 ALWAYS = {"NAME", "SYNOPSIS", "DESCRIPTION", "EXAMPLES", "SEE ALSO"}
-JOINED = ("BI", "BR", "IB", "IR", "RB", "RI")
 # A reader of an installed page has no source tree.
-SOURCE_TREE = re.compile(r"(?<![\w/])(?:tools|docs|build|crates|sites|ci|python|trials|cases|bench|deploy)/|\bmake \w")
-# Texts of faults that no accepted site file leads to.
-NEVER = ("dmr_trunk: there is not", "dmr_trunk: the desk was not opened", "error: ")
+SOURCE_TREE = re.compile(r"(?<![\w/])(?:tools|docs|build|crates|sites|ci|python|trials|cases|bench|deploy)/|\\fBmake \w|^ +make \w")
+ESCAPES = {r"\-": "-", r"\:": "", r"\&": "", r"\e": "\\", r"\(lq": "“", r"\(rq": "”", r"\(aq": "'", r"\(dq": '"', r"\(ga": "`", r"\(ha": "^", r"\(ti": "~"}
 
 
 class Entry(NamedTuple):
@@ -32,27 +34,29 @@ class Entry(NamedTuple):
     text: str
 
 
+def text_of(page: str) -> str:
+    """A page as it is written."""
+    return manual_pages()[page].read_text(encoding="utf-8")
+
+
 def unescaped(text: str) -> str:
     """A roff text without its escapes."""
-    text = re.sub(r"\\f[BIRP]|\\c$", "", text)
-    for escape, character in ((r"\-", "-"), (r"\ ", " "), (r"\(lq", "“"), (r"\(rq", "”")):
-        text = text.replace(escape, character)
-    return text
+    text = re.sub(r"\\f[BIR]", "", text)
+    return re.sub(r"\\\(..|\\\[u([0-9A-F]{4})\]|\\.", lambda it: chr(int(it[1], 16)) if it[1] else ESCAPES[it[0]], text)
 
 
 def plain(line: str) -> str:
     """The words of a line, without the macro before them."""
     if not line.startswith("."):
         return unescaped(line)
-    macro, _, rest = line[1:].partition(" ")
-    words = [unescaped(it) for it in shlex.split(rest.replace("\\", "\\\\").replace("'", "\\'"))] if rest else []
-    return ("" if macro in JOINED else " ").join(words)
+    _, _, rest = line[1:].partition(" ")
+    return " ".join(unescaped(it) for it in shlex.split(rest.replace("\\", "\\\\").replace("'", "\\'"))) if rest else ""
 
 
 def sections_of(page: str) -> dict[str, list[str]]:
     """The lines of each section of a page."""
     found: dict[str, list[str]] = {}
-    for line in (MAN / page).read_text(encoding="utf-8").splitlines():
+    for line in text_of(page).splitlines():
         if line.startswith(".SH "):
             found[line[4:]] = []
         elif found:
@@ -94,6 +98,12 @@ def options_of(help_text: str) -> dict[str, str]:
     return found
 
 
+@functools.cache
+def help_of(tool: str) -> str:
+    """What a tool prints for `--help`."""
+    return run_tool(tool, "--help", env={**os.environ, "COLUMNS": "1000"}).stdout
+
+
 def says(text: str, wanted: str) -> bool:
     """Whether a text begins with the expected one, except for the case of its first letter, and then ends a sentence."""
     return text[:1].lower() + text[1:len(wanted)] == wanted[:1].lower() + wanted[1:] and text[len(wanted):len(wanted) + 1] in ("", ".")
@@ -103,39 +113,71 @@ class Form(unittest.TestCase):
     """The form of each page."""
 
     def test_there_is_a_page_for_each(self) -> None:
-        self.assertEqual(set(PAGES), WANTED)
+        self.assertEqual(set(manual_pages()), WANTED)
 
     def test_sections(self) -> None:
-        for page in PAGES:
+        version = subprocess.run([TOP / "ci" / "version"], capture_output=True, text=True, check=True).stdout.strip()
+        for page in WANTED:
             with self.subTest(page):
                 found = sections_of(page)
                 self.assertLessEqual(ALWAYS, set(found))
                 self.assertEqual([it for it in ORDER if it in found], [*found])
                 name, number = page.split(".")
-                text = (MAN / page).read_text(encoding="utf-8")
-                self.assertRegex(text, rf'^\.TH {name.upper()} {number} \d{{4}}-\d\d-\d\d "Temzaar @VERSION@" ".*"\n')
+                self.assertRegex(text_of(page), rf'^\.TH {name.upper()} {number} "(\d{{4}}-\d\d-\d\d)?" "Temzaar {version}" ".*"\n')
                 self.assertTrue(found["NAME"][0].startswith(rf"{name} \- "), found["NAME"])
 
     def test_no_path_of_the_source_tree(self) -> None:
-        for page in PAGES:
-            for line in (MAN / page).read_text(encoding="utf-8").splitlines():
+        for page in WANTED:
+            for line in text_of(page).splitlines():
                 self.assertIsNone(SOURCE_TREE.search(line), f"{page}: {line}")
 
+    def test_everything_is_filled_in(self) -> None:
+        """No directive, no placeholder and no mark of the sources is left."""
+        for page in WANTED:
+            for line in text_of(page).splitlines():
+                self.assertNotRegex(line, r"^@|@[A-Z]+@|`|\*|\]\(", page)
+
     def test_pages_that_are_named_exist(self) -> None:
-        for page in PAGES:
-            named = re.findall(r"^\.(?:BR|RB) (?:\( )?(dmr_\w+) \((\d)\)", (MAN / page).read_text(encoding="utf-8"), re.M)
+        for page in WANTED:
+            named = re.findall(r"(dmr_\w+)(?:\\fR)?\((\d)\)", text_of(page))
             self.assertTrue(named)
             for name, number in named:
-                self.assertIn(f"{name}.{number}", PAGES, page)
+                self.assertIn(f"{name}.{number}", WANTED, page)
 
     def test_tools_for_pages_find_nothing(self) -> None:
         for words in (["lexgrog"], ["groff", "-ww", "-man", "-Tutf8", "-z"], ["man", "--warnings", "-E", "UTF-8", "-l", "-Tutf8", "-Z"]):
             if not shutil.which(words[0]):
                 self.skipTest(f"there is no {words[0]}: the packages man-db and groff have it")
-            for page in PAGES:
+            for page, path in manual_pages().items():
                 with self.subTest(words[0], page=page):
-                    done = subprocess.run([*words, str(MAN / page)], capture_output=True, text=True, check=False, env={**os.environ, "LC_ALL": "C.UTF-8", "MANPAGER": "cat"})
+                    done = subprocess.run([*words, str(path)], capture_output=True, text=True, check=False, env={**os.environ, "LC_ALL": "C.UTF-8", "MANPAGER": "cat"})
                     self.assertEqual((done.returncode, done.stderr), (0, ""))
+
+    def test_each_run_writes_the_same(self) -> None:
+        """The prefix is that of the words, and the date that of the environment."""
+        with tempfile.TemporaryDirectory() as folder:
+            for name in ("one", "two"):
+                subprocess.run([sys.executable, WRITE, "--prefix", "/opt/x-y", f"{folder}/{name}"], check=True, env={**os.environ, "SOURCE_DATE_EPOCH": "0"})
+            for page, path in manual_pages().items():
+                one, two = (pathlib.Path(folder, it, path.parent.name, page).read_bytes() for it in ("one", "two"))
+                self.assertEqual(one, two)
+                self.assertIn(b'"1970-01-01"', one)
+                self.assertNotIn(b"/usr/local", one)
+            self.assertIn(rb"/opt/x\-y/share/doc", pathlib.Path(folder, "one/man8/dmr_trunk.8").read_bytes())
+
+    def test_a_source_that_adds_to_nothing(self) -> None:
+        """A row for an option, or a status, that the program does not have is refused."""
+        loader = importlib.machinery.SourceFileLoader("write_manual", str(WRITE))
+        spec = importlib.util.spec_from_loader("write_manual", loader)
+        assert spec
+        writing = importlib.util.module_from_spec(spec)
+        loader.exec_module(writing)
+        for section, row in (("OPTIONS", "| --nothing | Text. |"), ("EXIT STATUS", "| 7 | Text. |"), ("DESCRIPTION", "@nothing")):
+            with self.subTest(row), tempfile.TemporaryDirectory() as folder:
+                path = pathlib.Path(folder, "dmr_check.1.md")
+                path.write_text(f"# dmr_check(1): check\n\n## {section}\n\n{row}\n", encoding="utf-8")
+                with self.assertRaises(SystemExit):
+                    writing.Writer(writing.Source(path), set()).page("0", "/usr", "")
 
 
 class Options(unittest.TestCase):
@@ -153,46 +195,48 @@ class Options(unittest.TestCase):
     def test_of_tools(self) -> None:
         for tool in TOOLS:
             with self.subTest(tool):
-                done = run_tool(tool, "--help", env={**os.environ, "COLUMNS": "1000"})
-                self.compare(PAGE_OF[tool], options_of(done.stdout))
-
-    def test_of_the_controller_in_its_source(self) -> None:
-        text = (TOP / "crates/dmr_command/src/words.rt").read_text(encoding="utf-8")
-        options = re.findall(r'\.long\("(\w+)"\)(.*?)\.help\("((?:[^"\\]|\\.)*)"\)', text, re.S)
-        values = [re.search(r'\.value_name\("(\w+)"\)', between) for _, between, _ in options]
-        wanted = {f"--{name}{' ' + value[1] if value else ''}": said for (name, _, said), value in zip(options, values)}
-        self.assertEqual(len(wanted), 4)
-        self.compare("dmr_trunk.8", {**wanted, "-h, --help": "Print help", "-V, --version": "Print version"})
+                self.compare(PAGE_OF[tool], options_of(help_of(tool)))
 
     def test_of_the_controller(self) -> None:
         done = subprocess.run([program("dmr_trunk"), "--help"], capture_output=True, text=True, check=False)
         self.assertEqual((done.returncode, done.stdout), (2, ""))
         self.compare("dmr_trunk.8", options_of(done.stderr))
 
-    def test_of_the_decoder(self) -> None:
-        text = (TOP / "crates/dmr_decode/src/main.rt").read_text(encoding="utf-8")
-        commands = dict(re.findall(r"^  dmr_decode (\S+(?: [A-Z.]+)?)  +(\S.*)$", text[:text.index('";\n')], re.M))
+    def test_of_the_controller_in_its_source(self) -> None:
+        self.assertCountEqual([entry.tags[0] for entry in entries_of(sections_of("dmr_trunk.8")["OPTIONS"])], ["--site FILE", "--script FILE", "--serve", "--terms N", "-h, --help", "-V, --version"])
+
+    def compare_commands(self, text: str) -> None:
+        """The page has the decoder's commands of a text, and what it says of them."""
+        commands = dict(re.findall(r"^  dmr_decode (\S+(?: [A-Z.]+)?)  +(\S.*)$", text, re.M))
         self.assertEqual(len(commands), 8)
-        entries = {entry.tags[0]: entry.text for entry in entries_of(sections_of("dmr_decode.1")["COMMANDS"])}
+        entries = {entry.tags[0]: entry.text.replace("`", "") for entry in entries_of(sections_of("dmr_decode.1")["COMMANDS"])}
         self.assertEqual(set(entries), set(commands))
         for command, said in commands.items():
-            self.assertTrue(says(entries[command], said), f"{command}: {entries[command]} / {said}")
+            self.assertTrue(says(entries[command], said.replace("`", "")), f"{command}: {entries[command]} / {said}")
+
+    def test_of_the_decoder_in_its_source(self) -> None:
+        text = (TOP / "crates/dmr_decode/src/main.rt").read_text(encoding="utf-8")
+        self.compare_commands(text[:text.index('";\n')])
+
+    def test_of_the_decoder(self) -> None:
+        self.compare_commands(subprocess.run([program("dmr_decode"), "--help"], capture_output=True, text=True, check=True).stdout)
 
 
 class Statuses(unittest.TestCase):
     """The exit statuses, and the messages of the controller."""
 
     def statuses(self, page: str) -> list[str]:
-        """The statuses of a page."""
-        return [entry.tags[0] for entry in entries_of(sections_of(page)["EXIT STATUS"])]
+        """The statuses of a page, each with a text."""
+        entries = entries_of(sections_of(page)["EXIT STATUS"])
+        self.assertTrue(all(entry.text for entry in entries))
+        return [entry.tags[0] for entry in entries]
 
     def test_of_tools(self) -> None:
         for tool in TOOLS:
             with self.subTest(tool):
-                said = re.search(r"^Status: (.*?)\n\n", run_tool(tool, "--help", env={**os.environ, "COLUMNS": "1000"}).stdout, re.M | re.S)
-                # carriers says its status in a sentence: 0 if all checks held
-                wanted = re.findall(r"(?:^|; )(\d) ", said[1]) if said else ["0", "1", "2"]
-                self.assertEqual(self.statuses(PAGE_OF[tool]), wanted)
+                said = re.search(r"^Status: (.*?)\n\n", help_of(tool), re.M | re.S)
+                assert said
+                self.assertEqual(self.statuses(PAGE_OF[tool]), re.findall(r"(?:^|;\s)(\d)\s", said[1]))
 
     def test_of_programs(self) -> None:
         for page, source in (("dmr_trunk.8", "dmr_command/src/words.rt"), ("dmr_decode.1", "dmr_decode/src/main.rt")):
@@ -205,11 +249,12 @@ class Statuses(unittest.TestCase):
         self.assertEqual(self.statuses("dmr_trunk.8"), list(dict.fromkeys(row[0] for row in rows)))
 
     def test_messages(self) -> None:
-        tags = [tag for entry in entries_of(sections_of("dmr_trunk.8")["DIAGNOSTICS"]) for tag in entry.tags]
-        wanted = [it for it in messages() if not it.startswith(NEVER)]
-        for it in wanted:
+        entries = entries_of(sections_of("dmr_trunk.8")["DIAGNOSTICS"])
+        tags = [tag for entry in entries for tag in entry.tags]
+        for it in messages():
             self.assertTrue(any(re.fullmatch(as_pattern(it), tag) for tag in tags), it)
-        self.assertEqual(len(tags), len(wanted))
+        self.assertEqual(len(tags), len(messages()))
+        self.assertTrue(all(entry.text for entry in entries))
 
 
 class SiteFile(unittest.TestCase):
@@ -229,7 +274,7 @@ class SiteFile(unittest.TestCase):
 
     def test_example_is_accepted(self) -> None:
         lines = sections_of("dmr_trunk.5")["EXAMPLES"]
-        text = "\n".join(line.removeprefix("    ") for line in lines[lines.index(".EX") + 1:lines.index(".EE")]) + "\n"
+        text = "\n".join(unescaped(line).removeprefix("    ") for line in lines[lines.index(".EX") + 1:lines.index(".EE")]) + "\n"
         built = program("dmr_trunk")
         with tempfile.NamedTemporaryFile("w", suffix=".toml") as site:
             site.write(text)
@@ -239,8 +284,14 @@ class SiteFile(unittest.TestCase):
 
 
 class Console(unittest.TestCase):
-    """The commands of the console."""
+    """The commands of the consoles."""
 
     def test_commands(self) -> None:
         wanted = [row[0] for row in table_rows(read_document("FORMATS.md"), "## Console")]
         self.assertEqual([entry.tags[0] for entry in entries_of(sections_of("dmr_trunk.8")["CONSOLE"])], wanted)
+        own = [row[0].split()[0].rstrip(",") for row in table_rows(read_document("HUB.md"), "| line | reply")]
+        self.assertEqual([entry.tags[0].split()[0] for entry in entries_of(sections_of("dmr_hub.8")["CONSOLE"])], own)
+
+
+if __name__ == "__main__":
+    unittest.main()

@@ -5,15 +5,24 @@
     archive --keep-days 90         removes from the months' files what is older than 90 days
     archive --older-days 7         copies only what is older than a week
 
-The controller keeps the newest 100,000 calls, events and terms. A month's file, such as 2026-11.db,
-has the same tables, so `callbook --records 2026-11.db` and the other tools read it. Months are
-those of UTC, and a day has 24 hours. A call is in the file of the month in which it began.
+The controller keeps the newest 100,000 calls, events and terms, and removes older ones. A month's
+file, such as 2026-11.db, has the same tables, so `callbook --records 2026-11.db` and the other
+tools read it. Its table of registrations is empty, since that says who is registered now. Months
+are those of UTC, and a day has 24 hours. A call is in the file of the month in which it began, an
+event in that in which it happened, and a term in that in which it ended.
 
 A run copies what is not there yet, so it may be repeated at any time. Each file changes in one
-transaction: after an interruption the next run does the rest. The controller's file is copied
-while the tool has SQLite's lock of readers, and is not changed.
+transaction: if a run is interrupted, or the disk is full, the next run does the rest. One run at a
+time changes a folder. The controller's file is copied while the tool has SQLite's lock of readers,
+and is not changed. If the controller has removed rows that were never copied, standard error says
+how many.
 
-Status: 0 done; 1 a file, named on standard error with the reason; 2 the words.
+The controller numbers its rows. If its file was made again, the numbers begin at 1, and rows of the
+same month go into a second file, such as 2026-11.2.db. So they do if a new version of the
+controller has other tables.
+
+Status: 0 the rows were copied and removed; 1 the folder is not there or in use, or a file cannot be
+read or written. Standard error has the reason, and other files were done; 2 the words.
 """
 import argparse
 import contextlib
@@ -41,12 +50,14 @@ def read_words(words: Sequence[str] | None) -> argparse.Namespace:
     parser.add_argument("--records", metavar="FILE", default=DEFAULT_PATH,
                         help=f"the controller's file of records ({DEFAULT_PATH})")
     parser.add_argument("--folder", default=DEFAULT_FOLDER,
-                        help=f"the folder of the months' files, which has to exist ({DEFAULT_FOLDER})")
+                        help="the folder of the months' files, which has to exist; their mode is "
+                             f"0640 ({DEFAULT_FOLDER})")
     parser.add_argument("--older-days", metavar="N", type=count_of(0, MOST_DAYS), default=0,
                         help="copy what is older than N days (0)")
     parser.add_argument("--keep-days", metavar="M", type=count_of(1, MOST_DAYS),
-                        help="remove from the months' files what is older than M days; "
-                             "without it, nothing")
+                        help="remove from the months' files what is older than M days, and "
+                             "overwrite it; without it, nothing. A file without rows is removed "
+                             "too, and the controller's file keeps its rows")
     parser.add_argument("--seconds", type=amount_above(0, 600), default=LOCK_SECONDS,
                         help="how long to wait while the controller writes the file "
                              f"({LOCK_SECONDS:g})")

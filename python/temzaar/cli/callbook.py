@@ -7,17 +7,20 @@
     callbook --names names.csv                     with the names of radios, talkgroups and carriers
 
 --from and --to take times of the machine's zone: 2026-11-27 (as --to: to the end of that day), 2026-11-27 08:00, and 08:00, which is today. -2h is two hours
-ago; s, m and d are seconds, minutes and days. A call is printed if it was active at some time between them.
+ago; s, m and d are seconds, minutes and days. A call is printed if all options fit it, and if it was active at some time between them.
 
-Below the calls are the times without records, and up to when the records go: calls of the term that runs are not in the file yet. As CSV and JSON the calls go
-to standard output alone, and these lines to standard error.
+The newest call is the last. The table has times of the machine's zone; CSV and JSON have them as ISO 8601, with milliseconds and the zone's offset. A slot of
+the table is the carrier's number and the slot's. A kind is talkgroup or individual. Below the calls are the times without records, and up to when the records
+go. The controller writes the file at the end of each term, so calls of the term that runs are not in it yet. As CSV and JSON the calls go to standard output
+alone, and these lines to standard error.
 
 With --names a name is next to its number: in the table 1001 [Bus 12], in CSV and JSON as source_name, target_name and carrier_name after the other columns.
 
 The tool copies the file while it has SQLite's lock of readers, and writes nothing next to it. It needs the right to read the file, as root or the
 controller's user has it.
 
-Status: 0 printed; 1 a file, named on standard error with the reason; 2 the words.
+Status: 0 the calls were printed; 1 a file cannot be read, is locked, or is not one of records or of names, or a time is wrong. Standard
+error has the reason; 2 the words.
 """
 import argparse
 import sys

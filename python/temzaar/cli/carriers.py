@@ -15,13 +15,17 @@ The tool checks that
 - no slot is granted to a call while another call holds it,
 - each poll is answered.
 
-It prints counts, how long the answer to a poll took, and the controller's share of one processor. The status is 0 if all checks held. Late grants,
-also late entries, are counted apart from grants that begin a call. A radio that receives one listens. A grant may wait until its call has ended and
+It prints counts, how long the answer to a poll took, and the controller's share of one processor. Late grants, also
+late entries, are counted apart from grants that begin a call. A radio that receives one listens. A grant may wait until its call has ended and
 been cleared: that is not a fault, and it is counted too.
 
 With --program and --faults things go wrong all the time, except at the beginning and at the end. Connections break off within frames; carriers stop
 reading, fall silent, or send no frames; the controller is stopped and continued, and kept short of descriptors and memory. Lost polls are counted by
 reason. No others may be lost, and in the end everybody is served.
+
+Use it before a site goes into service, not on a site in use: the controller takes its radios for real ones.
+
+Status: 0 all checks passed; 1 a check failed, or the controller did not listen or ended; 2 the words.
 """
 import argparse
 import sys
@@ -47,12 +51,12 @@ def read_words(words: Sequence[str] | None) -> argparse.Namespace:
     parser.add_argument("--carriers", type=count_of(1, 16), default=16, help="how many of the site's carriers (16)")
     parser.add_argument("--link-version", type=int, choices=VERSIONS, help="the version of the link that carriers speak (the greatest that the site file serves)")
     parser.add_argument("--radios", type=count_of(1, 4096), default=64, help="how many radios (64)")
-    parser.add_argument("--seconds", type=amount_above(0), default=30, help="how long (30)")
+    parser.add_argument("--seconds", type=amount_above(0), default=30, help="for how long carriers poll (30)")
     parser.add_argument("--polls", type=count_of(0, 1 << 40), default=0, help="end after this many polls; 0: no such end")
     parser.add_argument("--fast", action="store_true", help="poll as soon as the last poll is answered")
-    parser.add_argument("--seed", type=int, default=1, help="of what radios do at random (1)")
+    parser.add_argument("--seed", type=int, default=1, help="of what radios do at random; with the same seed they draw the same (1)")
     parser.add_argument("--faults", action="store_true", help="with --program: let things go wrong")
-    parser.add_argument("--troubles", type=amount_above(0, 1000), default=2.0, help="with --faults: how many a second (2)")
+    parser.add_argument("--troubles", type=amount_above(0, 1000), default=2.0, help="with --faults: how many things go wrong in a second (2)")
     options = parse_words(parser, words)
     if options.faults and not options.program:
         parser.error("--faults needs --program")

@@ -7,17 +7,25 @@
     check --names names.csv site.toml       the names of radios, talkgroups and carriers too; or without the site file, these alone
 
 The controller judges: the program that --controller names, or else the dmr_trunk on the PATH, replays an empty script over the file. It reports its first fault,
-and here that has the line of its key. A warning is what the controller accepts, and an operator may not have meant: each says why, and what to do. Keys that the
+and here that has the line of its key. A warning is what the controller accepts, and an operator may not have meant: each has a name, the reason, and what to do. Keys that the
 controller does not know are among them, since it ignores them. With --no-controller there are warnings alone.
 
-With --names each line of that file that is not used is a warning. So is a name for a radio, a talkgroup or a carrier that the site file does not have.
+With --names each line of that file that is not used is a warning, with its number. So is a name for a radio, a talkgroup or a carrier that the site file does not
+have. Without the site file the names alone are checked.
 
-A plan is computed by Erlang C: requests come independently of each other, and wait in their order for a slot. With status 1 sixteen carriers are too few.
+A plan is computed by Erlang C, so that at most P of 100 calls wait longer than W seconds for a slot. It has the service with some carriers fewer and one more, too.
 
-Status: 0 right; 1 the controller refuses it; 2 the words, or a file or program that cannot be read or run, or no controller; 3 warnings, with --strict.
+The address of the site file is compared with those of this machine. No port is opened for others, and nothing is sent.
 
-With --json standard output is one object: `status`, the `fault` with `text`, `detail` and `line`, the list `warnings`, and `controller`; with --explain also `values`.
-`no_verdict` says why the controller gave none. With --names also `names`: the number of names, and `warnings` with `line`.
+Status: 0 the file is right, and may have warnings. With --plan a site can have as many carriers; 1 the controller refuses the file. With --plan sixteen carriers
+are too few; 2 the words are wrong, the file cannot be read, or the controller cannot be run, or there is none. Standard error says which; 3 with --strict the file
+has warnings.
+
+With --json standard output is one object: `status`, `fault`, the list `warnings`, and `controller`. `fault` is null, or has the controller's `text`, `detail` and
+`line`. `controller` is the program that judged, or null; `no_verdict` says why it did not. Warnings have `line`, `do` with what to do, and `table` and `carrier` if they are
+of a carrier. These are null if there is none. With --explain there is also `values`, with --names also `names`: the number of names, and `warnings` with `line`.
+With --plan the object has `erlang`, the offered traffic, `carriers`, the answer or null, and `services`. That has a row for each number of carriers from 1 to 16:
+`carriers`, `slots`, the shares `waiting` and `too_long` from 0 to 1, and `mean_wait` in seconds. It is null if the wait is without end.
 """
 import argparse
 import json
@@ -174,7 +182,7 @@ def read_words(words: Sequence[str] | None) -> argparse.Namespace:
     parser = argparse.ArgumentParser(description=__doc__, formatter_class=argparse.RawDescriptionHelpFormatter)
     parser.add_argument("site", nargs="?", metavar="SITE_FILE", help="the site file; - is standard input")
     add_names_option(parser)
-    parser.add_argument("--explain", action="store_true", help="print the values as a table, with times in seconds")
+    parser.add_argument("--explain", action="store_true", help="print the values as a table, with times in seconds; keys that are missing have their defaults")
     parser.add_argument("--strict", action="store_true", help="warnings count: status 3 if there are any")
     parser.add_argument("--json", action="store_true", help="print the report for machines")
     parser.add_argument("--link-version", type=int, choices=VERSIONS, help="the greatest version of the link that base stations use; warn if the site refuses it")

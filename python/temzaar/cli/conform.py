@@ -3,13 +3,14 @@
     conform --site site.toml --program build/dmr_trunk                                 the client connects by itself, to the ports of the site file
     conform --site site.toml --program build/dmr_trunk -- client -p {port} -l {lpcn}   the client is started, and for each trial again
 
-For each row of the table it prints its name, `passed`, `failed` or `not tried`, and what was seen, or why it was not tried. All rows take a minute. Each time limit
-is two seconds longer than in the table, since a machine may be busy.
+It starts a controller on ports that nothing uses, and listens on the ports of the site file. Without a command the client connects by itself, and has to
+connect again after each trial. For each row of the table it prints its name, `passed`, `failed` or `not tried`, and what was seen, or why it was not tried. All
+rows take a minute. Each time limit is two seconds longer than in the table, since a machine may be busy.
 
 The client's command may have the placeholders {host}, {port}, {carrier}, {lpcn}, {version} and {bursts}. The last is a file that the client is to receive. It has a
 line `SLOT BURST` for a burst of 33 octets in hexadecimal, a line `SLOT voice`, and an empty line at the end of each frame.
 
-Status: 0 no row failed; 1 a file, a port, the controller or the client's command, named on standard error; 2 the words; 3 a row failed.
+Status: 0 no row failed; 1 a file, a port, the controller or the client's command was at fault. Standard error says which; 2 the words; 3 a row failed.
 """
 import argparse
 import json

@@ -4,11 +4,16 @@
     console status               this one line
     console <lines.txt           these lines, one after another
 
-`help` lists the commands. On a terminal the names of radios, talkgroups and carriers are next to their numbers, if the hub has them. In a pipe each reply is
-that of the hub, octet by octet. Numbers alone are typed. The hub has to run, and its config file has to have a role for the user. DMR_HUB_SOCKET in the environment names another
-socket than /run/dmr_hub/console.sock.
+`help` lists the commands. Tab completes them, and the numbers of radios, carriers and slots that the site has at the time. The arrows show earlier lines, also
+those of earlier sessions. Ctrl-C drops the line that is being typed; Ctrl-D or `quit` leaves. If the hub has closed the connection because nothing was typed,
+the next line opens it again. Words are one line. If standard input or output is not a terminal, each line of standard input is sent.
 
-Status: 0 each line was answered, and with no error; 1 the hub, named on standard error; 2 the words; 3 a reply was an error.
+On a terminal the names of radios, talkgroups and carriers are next to their numbers, if the hub has them. In a pipe each reply is that of the hub, octet by
+octet. Numbers alone are typed. The hub has to run, and its config file has to have a role for the user. DMR_HUB_SOCKET in the environment names another socket
+than /run/dmr_hub/console.sock.
+
+Status: 0 each line was answered, and with no error, or the user left the terminal; 1 the hub cannot be reached, or ended the connection. Standard error says
+why; 2 the words; 3 a reply was an error.
 """
 import argparse
 import contextlib

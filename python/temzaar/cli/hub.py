@@ -6,10 +6,17 @@
     hub --names names.csv        shows the names of this file, whatever the config file names
     hub --check                  checks the config file alone
 
-The controller serves one console connection at a time. The hub has that connection, and passes on the lines of all who are connected to it, each with the
-role of its user by the config file. It runs until SIGTERM or SIGINT.
+The controller serves one console connection at a time. The hub has that connection, and opens it again whenever it ends. It passes on the lines of all who are
+connected to it, one question at a time; users take turns. While the controller is away, each line is answered at once with the reason. Each user and group has
+a role by the config file: `read` may ask, and `full` may also change the site with `drop`, `end`, `move` and `stay`. Nobody else is served, unless the file
+says so.
 
-Status: 0 it was stopped, or the config file is accepted; 1 the config file, a port or the audit log, named on standard error; 2 the words.
+Each command that changes the site is written to an audit log before it is sent, and again with its reply; a command that was refused is written too. If the log
+cannot be written, such commands are refused. The hub sees a call only if it lasts from one poll to the next, and forgets calls and samples when it ends. If it
+reads the controller's file of records, the last calls are the recorded ones, and the metrics have counters of calls, registrations and refusals. It runs until
+SIGTERM or SIGINT.
+
+Status: 0 it was stopped, or the config file is accepted; 1 the config file, a port or the audit log was at fault. Standard error says which; 2 the words.
 """
 import argparse
 import asyncio

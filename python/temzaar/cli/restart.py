@@ -7,17 +7,25 @@ restarts, waits until all is back, and says what was lost.
     restart --site north.toml --records /var/lib/dmr_trunk-north/site.db \\
         --hub /run/dmr_hub-north/console.sock --command "systemctl restart dmr_trunk@north"
 
+It is for a planned stop, for example after a change of the site file. The controller that
+--controller names, or else the dmr_trunk on the PATH, judges the site file. If the file is refused,
+nothing is restarted. Then the console says which carriers are up, which radios are registered, and
+which calls are active. If a hub of this machine holds the console, the hub is asked.
+
 The controller writes what it has recorded, and which radios are registered, at the end of a term.
 A stop loses what came since then, so just after that it loses least. The end of a term is seen as a
 new row in the file of records. If no term ends in time, nothing is restarted, unless --anyway is
-given.
+given: perhaps the controller cannot write its records, and a stop would lose all that wait.
 
-What is there before and after is asked at the console, through the hub if one holds it. The site
-file is judged by the controller that --controller names, or else by the dmr_trunk on the PATH. If
-the file is refused, nothing is restarted.
+At the end of a term the console is asked again, and the command runs. When the console answers, and
+the carriers are up that were up before, the tool prints the calls and requests that were lost, and
+for how long nothing is recorded. It also prints how long after the stop the console answered, and
+which carriers and radios did not come back. Those that the new site file does not have are named
+apart, and do not count.
 
-Status: 0 all carriers and radios came back; 1 nothing was restarted, or the restart failed, as
-standard error says; 2 the words; 3 not all came back.
+Status: 0 all carriers and radios came back, or --dry-run found no fault; 1 nothing was restarted,
+or the restart failed. Standard error says why; 2 the words; 3 a carrier or a radio did not come
+back.
 """
 import argparse
 import shlex
@@ -71,8 +79,8 @@ def read_words(words: Sequence[str] | None) -> argparse.Namespace:
     parser.add_argument("--controller", metavar="PROGRAM",
                         help="the controller that judges the site file (dmr_trunk on the PATH)")
     parser.add_argument("--command", metavar="WORDS", default=DEFAULT_COMMAND,
-                        help="the command that restarts the controller, without a shell "
-                             f"({DEFAULT_COMMAND})")
+                        help="the command that restarts the controller, without a shell; it ends with "
+                             f"status 0 when the controller was started ({DEFAULT_COMMAND})")
     parser.add_argument("--within", metavar="SECONDS", type=amount_above(0, 86400), default=600.0,
                         help="how long to wait for the end of a term (600)")
     parser.add_argument("--anyway", action="store_true",

@@ -5,14 +5,15 @@
     siteview --console 127.0.0.1:7100        this console, without a hub
     siteview --site site.toml --once         one picture, as plain text
 
-Live, the keys type a line to the operator's console; Enter sends it, and the answer is shown below the picture. Ctrl-C or Ctrl-D leaves. Without a hub
-one operator is served at a time: while siteview is connected, another console waits, so type here. An age is how long siteview has seen a call or a
-request; `>` says that it was there before. The controller reports no ages, so --once shows none.
+The console is asked several times a second. Live, the keys type a line to the operator's console; Enter sends it, and the answer is shown below the picture.
+Ctrl-C or Ctrl-D leaves. Without a hub one operator is served at a time: while the tool is connected, another console waits, so type here. An age is how long
+the tool has seen a call or a request; `>` says that it was there before. The controller reports no ages, so --once shows none.
 
 The names of radios, talkgroups and carriers are next to their numbers: those of the hub, or of the file that --names names, which is read again when it
 changes. Numbers alone are typed.
 
-Status: 0 it was left, or the picture printed; 1 the site file, the console or the hub, named on standard error; 2 the words.
+Status: 0 the user left, or the picture was printed; 1 the site file, the console, the hub or the file of names was at fault. Standard error says which; 2 the
+words.
 """
 import argparse
 import os

@@ -16,11 +16,13 @@ grant to its P_CLEAR, or to the loss of its carrier. If no grant was sent before
 - polls, on the rows' lower edges
 - an operator's lines, on a row of their own
 
-A legend below the rows has them all. Point at a mark to read what it is. Ticks are drawn to one scale; what comes within a tick is spread out, in its
-order. With --start, clock times are above the ticks, and --from and --to take them.
+A legend below the rows has them all. Point at a mark to read what it is. Ticks are drawn to one scale; what comes within a tick is spread out, in its order.
+With --start clock times are above the ticks. Then --from and --to take
+them: HH:MM:SS, with a date YYYY-MM-DDTHH:MM:SS. A time of day before that of the start is one of the next day.
 
-The list of calls has for each when it began and ended, its carrier and slot, its kind, source and target. It also has how long the call waited for a
-slot, and why it ended: that follows from the site file and the script.
+The list of calls has for each when it began and ended, its carrier and slot, its kind, source and target. It also has how long the call waited for a slot, and
+why it ended. Times are ticks, and clock times if the start is known. Nothing that is sent says why a call ended: that follows from the site file and the
+script.
 
 With --records there is no script. The picture has what the records have: calls, carriers that come up and are lost, registrations and refusals in a row
 `radios`, and operators' commands. Grants, P_CLEARs, bursts and polls are not recorded. Time is drawn to one scale, with marks at round times, and a time without
@@ -28,9 +30,11 @@ records is hatched. The site file is optional: it has the carriers that no recor
 which slot is the control slot. --from and --to are times then: 2026-11-27, 2026-11-27 08:00, 08:00 (today), or -2h (also s, m and d). Without them it is
 all of the file. `callbook` lists the calls of records.
 
-With --names the names of radios, talkgroups and carriers are next to their numbers; in CSV and JSON they follow the other columns.
+With --names a name is next to its number: in what marks and bars say, and in the table of calls. In CSV and JSON they are source_name, target_name and
+carrier_name, after the other columns.
 
-Status: 0 drawn; 1 a file, the program, a script whose replay sent nothing, or an output of another script, named on standard error; 2 the words.
+Status: 0 the picture was drawn, or the list written; 1 a file or the program was at fault. Or the replay sent nothing, or script and output do not belong
+together: standard error says which; 2 the words.
 """
 import argparse
 import os
@@ -141,7 +145,7 @@ def read_words(words: Sequence[str] | None) -> argparse.Namespace:
     parser.add_argument("--start", help="the clock time of tick 0: HH:MM:SS, or YYYY-MM-DDTHH:MM:SS (that which a recorded script has)")
     parser.add_argument("--from", dest="first", metavar="FROM", help="draw or list from this tick, or time, on")
     parser.add_argument("--to", dest="last", metavar="TO", help="draw or list up to this tick, or time")
-    parser.add_argument("--page", type=amount_above(0, 1e6), metavar="MINUTES", help="draw pages of so many minutes, each into a file of its own")
+    parser.add_argument("--page", type=amount_above(0, 1e6), metavar="MINUTES", help="draw pages of so many minutes, each into a file of its own, such as incident-001.svg of incident.svg; a line for each goes to standard output")
     parser.add_argument("--calls", nargs="?", const="text", choices=[it.value for it in ListFormat], help="list the calls, as text without a word after it, instead of drawing")
     add_names_option(parser)
     options = parse_words(parser, join_times(list(sys.argv[1:] if words is None else words), ("--from", "--to")))

@@ -3,6 +3,7 @@ import contextlib
 import importlib.machinery
 import importlib.util
 import io
+import re
 import sys
 import types
 import unittest
@@ -69,7 +70,7 @@ class Parts(unittest.TestCase):
     def run_parts(self, fast: list[object], gate: tuple[int, int, int] = (0, 3, 0),
                   programs: list[object] | None = None) -> tuple[int, list[str]]:
         """Runs all parts with these checks, and a gate of this status and these counts of passed
-        and failed. The status and the lines."""
+        and failed. The status and the lines, with 0 s in the place of all times."""
         ran = types.SimpleNamespace(status=gate[0], passed=gate[1], failed=gate[2], minutes={}, total=0, wall=0)
         stub = types.SimpleNamespace(steps=[("a proof", 1)], spent=lambda name: None, run=lambda words, progress: ran)
         built, out = types.SimpleNamespace(is_current=lambda name: bool(programs)), io.StringIO()
@@ -79,7 +80,7 @@ class Parts(unittest.TestCase):
         with unittest.mock.patch.multiple(check, **changed), unittest.mock.patch.object(sys, "argv", ["ci/check", "all"]), \
                 contextlib.redirect_stdout(out):
             status = check.main()
-        return status, out.getvalue().splitlines()
+        return status, re.sub(r"\(\d+ s\)", "(0 s)", out.getvalue()).splitlines()
 
     def test_all_passed(self) -> None:
         """Each part runs, what the last run of tests skipped is named before the closing line,

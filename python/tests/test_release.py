@@ -89,10 +89,10 @@ class Runs(unittest.TestCase):
         self.steps = [steps.Step(name, ["sh", "-c", f"echo {name}; test {name} != fails"], 1) for name in ("first", "fails", "last")]
 
     def run_all(self, listed: list[object], seconds: float = 60) -> tuple[list[tuple[str, int, int]], str]:
-        """Runs the steps as run 2: the outcomes, and what was shown."""
+        """Runs the steps as run 2: the outcomes, and what was shown, with 0 s in the place of all times."""
         out = io.StringIO()
         progress = shown.Progress([(it.name, it.seconds) for it in listed], out)
-        return [(it.step.name, it.status, it.run) for it in steps.run_all(listed, self.folder, self.folder / "logs", progress, 2, seconds)], out.getvalue()
+        return [(it.step.name, it.status, it.run) for it in steps.run_all(listed, self.folder, self.folder / "logs", progress, 2, seconds)], re.sub(r"\(\d+ s\)", "(0 s)", out.getvalue())
 
     def test_each_is_run_and_shown(self) -> None:
         """A step that fails ends nothing. Each has a line that says how many are left."""

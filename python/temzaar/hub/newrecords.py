@@ -15,7 +15,7 @@ from temzaar.hub.samples import SPANS
 from temzaar.hub.seencalls import MOST_ENDED, SeenCall, pack_call
 from temzaar.picture import LAST_RADIO
 from temzaar.recordgaps import Gap, find_gaps
-from temzaar.records import LOG, RecordedCall, RecordedTerm, Records, RecordsFault, opened_records
+from temzaar.records import LAST_CARRIER, LAST_SLOT, LOG, BadRow, RecordedCall, RecordedTerm, Records, RecordsFault, is_whole, opened_records, require
 
 # Seconds for which a look at the file waits while the controller writes; then the hub tries again at the next look.
 LOCK_SECONDS = 0.5
@@ -23,8 +23,6 @@ LOCK_SECONDS = 0.5
 DURATION_BUCKETS = (1.0, 2.0, 5.0, 10.0, 20.0, 30.0, 60.0, 120.0, 180.0, 300.0)
 # The columns of `terms` that are summed.
 SUMMED = ("registrations", "heard", "noise", "polls", "grants", "late_entries")
-# The greatest number of a carrier, and of a slot.
-LAST_CARRIER, LAST_SLOT = 15, 1
 
 Signature = tuple[FileState, FileState]
 
@@ -56,21 +54,6 @@ class NewRecords:
     happened: dict[str, list[Happened]] = field(default_factory=dict)
     begins_ms: int | None = None
     gaps: list[Gap] = field(default_factory=list)
-
-
-class BadRow(ValueError):
-    """A row has a value that the controller does not write. The text names the table, the row and the value."""
-
-
-def require(holds: bool, row: str, about: str) -> None:
-    """BadRow: something does not hold of a row."""
-    if not holds:
-        raise BadRow(f"{row}: {about}")
-
-
-def is_whole(value: object, least: int | None = None, most: int | None = None) -> bool:
-    """Whether a value is a whole number, in a range."""
-    return isinstance(value, int) and (least is None or value >= least) and (most is None or value <= most)
 
 
 def seen_call(call: RecordedCall) -> SeenCall:

@@ -5,7 +5,7 @@ from dataclasses import dataclass, field
 from typing import Any
 
 from temzaar.hub.httpread import Request
-from temzaar.hub.keys import Choice, Sought, Whole
+from temzaar.hub.keys import Choice, Instant, Sought, Whole
 from temzaar.hub.model import SiteModel
 from temzaar.hub.moment import Moment, utc_text
 from temzaar.hub.namebook import Row
@@ -24,7 +24,7 @@ from temzaar.recordgaps import gaps_within
 USUAL_CALLS, MOST_CALLS = 100, 1000
 # How many responses are kept, each of some 257,000 octets at most.
 MOST_KEPT = 16
-CALL_KEYS = {"radio": Whole(1, LAST_RADIO), "group": Whole(1, LAST_RADIO), "last": Whole(1, MOST_CALLS)}
+CALL_KEYS = {"radio": Whole(1, LAST_RADIO), "group": Whole(1, LAST_RADIO), "from": Instant(), "to": Instant(), "last": Whole(1, MOST_CALLS)}
 RADIO_KEYS = {"begins": Whole(1, LAST_RADIO), "most": Whole(1, MOST_CALLS)}
 NAME_KEYS = {"find": Sought(MOST_CHARACTERS), "most": Whole(1, MOST_CALLS)}
 HISTORY_KEYS = {"span": Choice(*SPANS)}
@@ -110,11 +110,13 @@ class BoardViews:
     def _make_calls(self, text: str) -> Response:
         """The calls by a query. BadRequest: it is refused."""
         query, log = read_query(text, CALL_KEYS), self.model.calls
-        found = self._find_calls(CallFilter(query.get("radio"), query.get("group")), query.get("last", USUAL_CALLS))
-        until = self.views.records.log.until if self.views.records else None
+        first, last = (query[name] / 1000 if name in query else None for name in ("from", "to"))
+        wanted, most = CallFilter(query.get("radio"), query.get("group"), first, last), query.get("last", USUAL_CALLS)
+        found, recorded = self._find_calls(wanted, most + 1), self.views.records.log if self.views.records else None
+        until, ring = recorded.until if recorded else None, recorded.ended if recorded else log.ended
         view = {"since": utc_text(self.views.begun.wall, decimals=True), "poll_seconds": self.views.config.poll.state_seconds, "seen": log.count, "kept": log.ended.size,
-                "recorded_until": None if until is None else utc_text(until, decimals=True), "calls": [call_view(it, self.names) for it in found],
-                "name": self._name_asked(query)}
+                "recorded_until": None if until is None else utc_text(until, decimals=True), "complete": len(found) <= most and not ring.has_lost(first),
+                "calls": [call_view(it, self.names) for it in found[:most]], "name": self._name_asked(query)}
         return tagged_response(json_octets(view), JSON)
 
     def _name_asked(self, query: dict[str, Any]) -> str | None:

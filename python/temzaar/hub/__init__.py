@@ -18,6 +18,7 @@ Modules, lowest first:
     recordsamples  counts of the records over the last hour and the last day
     termwatch  terms that come late, and polls that are missing
     recordgapcounts  the times that the records do not have
+    slotuse    slots in use by the records, for times of which there is no picture
     recordreader   looks at the file every few seconds
     model      the state of the site, as the last answers had it
     namebook   the names of the file of names, which is read again when it changes

@@ -13,6 +13,7 @@ from temzaar.hub.moment import Moment
 from temzaar.hub.recordsamples import Happened
 from temzaar.hub.samples import SPANS
 from temzaar.hub.seencalls import MOST_ENDED, SeenCall, pack_call
+from temzaar.hub.slotuse import Used, slots_used
 from temzaar.picture import LAST_RADIO
 from temzaar.recordgaps import Gap, find_gaps
 from temzaar.records import LAST_CARRIER, LAST_SLOT, LOG, BadRow, RecordedCall, RecordedTerm, Records, RecordsFault, is_whole, opened_records, require
@@ -43,7 +44,7 @@ class Durations:
 class NewRecords:
     """What is new. `last` is the newest term, None if there is none; `terms` is how many are new. Calls are counted by kind and cause, refusals by reason.
     `newest` has the newest calls in their order, each as the record of a SeenCall, and `happened` has counts for the samples of each span. `begins_ms` is when the
-    first of the new terms began; `gaps` are the times that are not recorded, up to the last of them."""
+    first of the new terms began; `gaps` are the times that are not recorded, up to the last of them. `used` is how many slots had a call in samples of each span."""
     last: RecordedTerm | None = None
     terms: int = 0
     sums: dict[str, int] = field(default_factory=lambda: dict.fromkeys(SUMMED, 0))
@@ -54,6 +55,7 @@ class NewRecords:
     happened: dict[str, list[Happened]] = field(default_factory=dict)
     begins_ms: int | None = None
     gaps: list[Gap] = field(default_factory=list)
+    used: dict[str, list[Used]] = field(default_factory=dict)
 
 
 def seen_call(call: RecordedCall) -> SeenCall:
@@ -153,3 +155,4 @@ def take_new(records: Records, last: RecordedTerm | None, new: NewRecords) -> No
     require(new.begins_ms is None or is_whole(new.begins_ms), "terms", f"a term began at {new.begins_ms!r}")
     new.newest = [pack_call(seen_call(it)) for it in records.calls(("term > ?", [since]), last=MOST_ENDED)]
     new.happened = {span: happened_since(records, since, span) for span in SPANS}
+    new.used = slots_used(records, since, Moment.now())

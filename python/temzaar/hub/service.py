@@ -39,7 +39,7 @@ class Hub:
         self.book = NameBook(config.names)
         self.desk = Desk(self.link, self.audit, config.line_port, self.counts, self.poller.hurry, config.controller.name, self.book)
         self.line_port = LinePort(self.desk, rules)
-        self.records = RecordReader(config.records) if config.records.file else None
+        self.records = RecordReader(config.records, self.model.samples) if config.records.file else None
         self.views = Views(config, self.link, self.model, self.counts, self.desk.sessions, Moment.now(), self.records, self.book)
         self.board = BoardViews(self.views)
         views = {**self._load_page(), **self._views_for_machines()}

@@ -6,7 +6,6 @@ from collections import Counter
 from collections.abc import Iterable
 from dataclasses import dataclass, field
 
-from temzaar import pdus
 from temzaar.console import Parties
 from temzaar.faults import FileState, file_state
 from temzaar.hub.moment import Moment
@@ -17,6 +16,7 @@ from temzaar.hub.slotuse import Used, slots_used
 from temzaar.picture import LAST_RADIO
 from temzaar.recordgaps import Gap, find_gaps
 from temzaar.records import LAST_CARRIER, LAST_SLOT, LOG, BadRow, RecordedCall, RecordedTerm, Records, RecordsFault, is_whole, opened_records, require
+from temzaar.siteevents import reason_text
 
 # Seconds for which a look at the file waits while the controller writes; then the hub tries again at the next look.
 LOCK_SECONDS = 0.5
@@ -96,13 +96,6 @@ def last_known(records: Records, last: RecordedTerm | None) -> int:
     # the term has been removed with other old rows, or another file is at this path, whose terms begin at 1
     greatest = records.conn.execute("SELECT max(number) FROM terms").fetchone()[0] or 0
     return last.number if greatest > last.number else 0
-
-
-def reason_text(reason: int | None) -> str:
-    """A reason code, by its name if it has one."""
-    if reason is None:
-        return "none"
-    return pdus.REASONS[reason].name if reason in pdus.REASONS else f"0x{reason:02X}"
 
 
 def count_calls(rows: Iterable[tuple[int, int, str, float]], new: NewRecords) -> None:

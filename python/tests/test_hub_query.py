@@ -1,7 +1,7 @@
 """Queries of HTTP paths: values of each kind, and refusals that name the key."""
 import unittest
 
-from temzaar.hub.boardviews import CALL_KEYS, HISTORY_KEYS, NAME_KEYS, RADIO_KEYS
+from temzaar.hub.boardviews import CALL_KEYS, EVENT_KEYS, HISTORY_KEYS, NAME_KEYS, RADIO_KEYS
 from temzaar.hub.query import read_query
 from temzaar.hub.httpread import BadRequest
 from tests.made_records import NOON
@@ -23,7 +23,8 @@ class Read(unittest.TestCase):
         """Half past twelve in UTC, in each form: milliseconds, and ISO 8601 with a zone."""
         for text in (f"{NOON + 1_800_000}", f"0{NOON + 1_800_000}", "2026-11-27T12:30:00Z", "2026-11-27T12:30:00.000Z", "2026-11-27T12:30Z", "2026-11-27T14:30:00+02:00", "2026-11-27T14:30:00%2B02:00", "20261127T123000Z",
                      "2026-11-27T11:00:00-01:30", "2026-11-27%2012:30:00Z"):
-            self.assertEqual(read_query(f"from={text}&to=0", CALL_KEYS), {"from": NOON + 1_800_000, "to": 0}, text)
+            for kinds in (CALL_KEYS, EVENT_KEYS):
+                self.assertEqual(read_query(f"from={text}&to=0", kinds), {"from": NOON + 1_800_000, "to": 0}, text)
 
     def test_refusals(self) -> None:
         for query, said in (("colour=red", "colour: unknown key: there is radio, group, from, to, last"), ("radio=1&radio=2", "radio: given twice"), ("radio", "radio: not a whole number: 1 to 16777215"),

@@ -22,6 +22,9 @@ Modules, lowest first:
     recordreader   looks at the file every few seconds
     model      the state of the site, as the last answers had it
     namebook   the names of the file of names, which is read again when it changes
+    eventlog   what happened at the site, in memory of a fixed size
+    eventfeed  events of the records and of the audit log
+    eventwatch events that the hub sees
     poller     keeps the model up to date
     lines      the lines of operators
     roles      who a peer is, and what it may do
@@ -31,6 +34,7 @@ Modules, lowest first:
     session    an operator's connection: lines and their replies
     lineport   the port that operators connect to
     views      the site as JSON and as metrics, and whether all is well
+    eventviews the events as JSON, and as rows of the line port
     httpread   requests of HTTP, read from octets
     web        the HTTP port
     query      the queries of HTTP paths

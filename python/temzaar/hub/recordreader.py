@@ -2,6 +2,7 @@
 import asyncio
 import sqlite3
 import time
+from collections.abc import Callable
 
 from temzaar.faults import ToolFault
 from temzaar.hub.config import RecordsKeys
@@ -16,18 +17,19 @@ from temzaar.hub.samples import Samples
 from temzaar.hub.termwatch import TermWatch
 from temzaar.hub.worker import Late, Worker
 from temzaar.records import RecordedTerm
+from temzaar.siteevents import SiteEvent
 
 # Seconds that a look may take: a file of 256 MiB on a slow disk is read within them.
 LOOK_SECONDS = 60.0
 
 
 class RecordReader:
-    """The file's new rows, as counters, calls, and counts of the last hour and day. `figures` are the samples of the hub's pictures: those
+    """The file's new rows, as counters, calls, counts of the last hour and day, and events, which `on_events` takes. `figures` are the samples of the hub's pictures: those
     without a picture are filled from the records, as far as these go."""
 
-    def __init__(self, keys: RecordsKeys, figures: Samples | None = None) -> None:
+    def __init__(self, keys: RecordsKeys, figures: Samples | None = None, on_events: Callable[[list[SiteEvent]], None] = lambda _: None) -> None:
         self.keys, self.worker = keys, Worker("records", LOOK_SECONDS)
-        self.figures = figures or Samples()
+        self.figures, self.on_events = figures or Samples(), on_events
         self.counts, self.log, self.samples = RecordCounts(), RecordedLog(), RecordSamples()
         self.gaps, self.watch = RecordGaps(), TermWatch()
         self.last: RecordedTerm | None = None
@@ -68,6 +70,7 @@ class RecordReader:
             self.log.take(new)
             self.gaps.take(new)
             self.figures.refill("slots_in_use", new.used, Moment.now())
+            self.on_events(new.events)
 
     def _fail(self, fault: str) -> None:
         """Counts and notes a look that failed."""

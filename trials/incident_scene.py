@@ -292,7 +292,7 @@ class Scene:
         """Begins an incident: what notes and records have already is not of it. The time."""
         self.before = {
             it: Counter(self.look(it).splitlines())
-            for it in ("note", "hub's note", "audit log", "history", "callbook")
+            for it in ("note", "hub's note", "audit log", "history", "events", "callbook")
         }
         return time.monotonic()
 
@@ -305,6 +305,7 @@ class Scene:
             "siteview": self.siteview,
             "console": lambda: self.console("status"),
             "history": lambda: self.console("history"),
+            "events": lambda: self.console("events 100"),
             "callbook": self.callbook,
             "calls.json": lambda: self.get("/v1/calls.json?last=20"),
             "note": lambda: "\n".join([*self.notes, *self.controller.notes]),

@@ -9,7 +9,7 @@ from collections.abc import Iterable, Iterator
 
 from temzaar.console import CHANGES, LONGEST_LINE, QUESTIONS, Console, ConsoleFault, read_calls, read_radios, read_slots
 from temzaar.hub.config import LinePortKeys
-from temzaar.hub.lines import AWAY, BUSY, HUB_LISTS, NAME, NO_ANSWER, OWN, WHO_SITE, unescape_octets
+from temzaar.hub.lines import ACKNOWLEDGE, ALL, AWAY, BUSY, EVENT, HUB_LISTS, NAME, NO_ANSWER, OWN, WAITS, WHO_SITE, unescape_octets
 from temzaar.names import KINDS, Bearer, Kind, Names, bearers_in, names_of, read_name
 from temzaar.printable import printable
 
@@ -19,6 +19,8 @@ VARIABLE = "DMR_HUB_SOCKET"
 WITHOUT_CONTROLLER = tuple(f"error {it}: " for it in (AWAY, NO_ANSWER, BUSY))
 # The digits of the greatest radio.
 MOST_DIGITS = 8
+# How many events are looked at for a completion: as many as the hub lists.
+MOST_EVENTS = 100
 # Seconds for which the names of the hub are used before it is asked again.
 NAME_SECONDS = 10.0
 
@@ -150,7 +152,7 @@ def has_ended(console: Console) -> bool:
 
 
 class Completions:
-    """What the last word of a line may be: a command, or a radio, carrier or slot that the site has now."""
+    """What the last word of a line may be: a command, or a radio, carrier, slot or event that the site has now."""
 
     def __init__(self, console: Console) -> None:
         self.console = console
@@ -168,6 +170,10 @@ class Completions:
             yield from (*QUESTIONS, *CHANGES, *OWN)
         elif before == ["names"]:
             yield from KINDS
+        elif before[0] == ACKNOWLEDGE and ALL not in before:
+            yield from self._waiting()
+            if before == [ACKNOWLEDGE]:
+                yield ALL
         elif before in (["drop"], ["radios"], ["names", "radio"]):
             yield from self._radios(begun)
         elif before == ["calls"]:
@@ -176,6 +182,12 @@ class Completions:
             yield from (str(carrier) for (carrier, _), state in read_slots(self.console.ask("slots")).items() if state == "call")
         elif before[:1] == ["end"] and len(before) == 2 and before[1].isdecimal():
             yield from (str(slot) for _, slot in read_calls(self.console.ask(f"calls {before[1]}")))
+
+    def _waiting(self) -> Iterator[str]:
+        """The numbers of events that wait for an acknowledgement."""
+        for words in map(str.split, self.console.ask(f"events {MOST_EVENTS}")):
+            if words[0] == EVENT.strip() and words[3:4] == [WAITS]:
+                yield words[1]
 
     def _radios(self, begun: str) -> Iterator[str]:
         """Registered radios whose numbers begin with some digits, 16 of each length at most."""

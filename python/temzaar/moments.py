@@ -6,6 +6,8 @@ from temzaar.faults import ToolFault
 
 EPOCH = datetime(1970, 1, 1, tzinfo=UTC)
 MILLISECOND = timedelta(milliseconds=1)
+# The last millisecond of the calendar, of the year 9999.
+LAST_MS = 253_402_300_799_999
 # The units of a time before now.
 UNITS = {"s": timedelta(seconds=1), "m": timedelta(minutes=1), "h": timedelta(hours=1), "d": timedelta(days=1)}
 RELATIVE = re.compile(r"-(\d{1,6})([smhd])", re.ASCII)

@@ -27,6 +27,8 @@ MAGIC, LOG = b"SQLite format 3\0", "-wal"
 PENDING, SHARED, SHARED_COUNT = 0x40000000, 0x40000002, 510
 # Seconds for which a reader waits for the lock, and from one try to the next.
 LOCK_SECONDS, TRY_SECONDS = 5.0, 0.02
+# The greatest number of a carrier, and of a slot.
+LAST_CARRIER, LAST_SLOT = 15, 1
 # The words of the columns `calls.cause`.
 CAUSES = ("hang_time", "maximum", "radio_left", "dropped", "ended_by_operator", "carrier_lost")
 
@@ -35,6 +37,21 @@ Where = tuple[str, list[Any]]
 
 class RecordsFault(ToolFault):
     """A file of records that cannot be read. The text names it, and says why."""
+
+
+class BadRow(ValueError):
+    """A row has a value that the controller does not write. The text names the table, the row and the value."""
+
+
+def require(holds: bool, row: str, about: str) -> None:
+    """BadRow: something does not hold of a row."""
+    if not holds:
+        raise BadRow(f"{row}: {about}")
+
+
+def is_whole(value: object, least: int | None = None, most: int | None = None) -> bool:
+    """Whether a value is a whole number, in a range."""
+    return isinstance(value, int) and (least is None or value >= least) and (most is None or value <= most)
 
 
 @dataclass(frozen=True)
@@ -117,9 +134,11 @@ class Records:
         rows = [RecordedCall(*row[:4], bool(row[4]), *row[5:]) for row in self._rows("calls", OF_CALLS, where, order)]
         return rows if last is None else rows[::-1]
 
-    def events(self, where: Where = ("1", [])) -> list[RecordedEvent]:
-        """Events that meet a condition, in the order of their times."""
-        return [RecordedEvent(*row) for row in self._rows("events", OF_EVENTS, where, "at_ms, number")]
+    def events(self, where: Where = ("1", []), last: int | None = None) -> list[RecordedEvent]:
+        """Events that meet a condition, in the order of their times; the last ones, if `last` says how many."""
+        order = "at_ms, number" if last is None else f"at_ms DESC, number DESC LIMIT {last}"
+        rows = [RecordedEvent(*row) for row in self._rows("events", OF_EVENTS, where, order)]
+        return rows if last is None else rows[::-1]
 
     def terms(self, where: Where = ("1", [])) -> list[RecordedTerm]:
         """Terms that meet a condition, in their order."""

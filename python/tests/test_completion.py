@@ -44,6 +44,8 @@ class Completion(unittest.TestCase):
             (["dmr_decode", "word", "w"], []),
             (["dmr_console", "s"], ["status", "slots", "stay"]),
             (["dmr_console", "n"], ["names"]),
+            (["dmr_console", "ev"], ["events"]),
+            (["dmr_console", "ac"], ["acknowledge"]),
             (["dmr_carriers", "--link-version", ""], ["1", "2"]),
             (["dmr_conform", "--row", "d"], ["done", "died"]),
             (["dmr_timeline", "--calls", "c"], ["csv"]),

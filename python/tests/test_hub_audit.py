@@ -7,7 +7,7 @@ import tempfile
 import unittest
 from unittest import mock
 
-from temzaar.hub.audit import AuditFault, AuditLog
+from temzaar.hub.audit import TAIL_OCTETS, AuditFault, AuditLog
 from temzaar.hub.config import AuditKeys
 from tests.hub_support import HubCase
 
@@ -69,6 +69,35 @@ class Written(unittest.TestCase):
     def test_a_link_is_not_followed(self) -> None:
         os.symlink("/dev/null", self.path)
         self.assertRaises(OSError, self.log().append, b"1\n")
+
+    def test_the_last_records(self) -> None:
+        """Those of the file before this one come first. Lines that are torn or no object are left out; of a long file the end is read; other things than files are not."""
+        log = self.log()
+        self.assertEqual(asyncio.run(log.read_last()), [])
+        for name, text in (("", '{"n":3}\n{"n":4}\n[5]\n"x"\n{"n":'), (".1", '{"n":1}\nnothing\n\xff\n{"n":2}\n')):
+            with open(self.path + name, "w", encoding="latin-1") as it:
+                it.write(text)
+        self.assertEqual(asyncio.run(log.read_last()), [{"n": number} for number in (1, 2, 3, 4)])
+        with open(self.path, "w", encoding="ascii") as it:
+            it.writelines(f'{{"n":{number:010}}}\n'.replace("0000", "1111", 1) for number in range(100_000))
+        found = asyncio.run(log.read_last())
+        # a line has 17 octets
+        self.assertEqual((len(found), found[-1]), (2 + TAIL_OCTETS // 17, {"n": 1111099999}))
+        os.remove(self.path + ".1")
+        os.mkfifo(self.path + ".1")
+        self.assertEqual(len(asyncio.run(log.read_last())), TAIL_OCTETS // 17)
+        with open(self.path, "w", encoding="ascii") as it:
+            it.write("[" * 400_000 + "\n" + '{"n":1}\n')
+        self.assertEqual(asyncio.run(log.read_last()), [{"n": 1}])
+
+    def test_who_hears_of_a_record(self) -> None:
+        """The caller is called once the record is on the disk, and not if it cannot be written."""
+        log, told = self.log(), list[object]()
+        log.on_record = told.append
+        with mock.patch("os.fsync", side_effect=OSError(28, "No space left on device")):
+            self.assertRaises(AuditFault, asyncio.run, log.record({"n": 1}))
+        asyncio.run(log.record({"n": 2}))
+        self.assertEqual(told, [{"n": 2}])
 
     def test_refusals_do_not_displace_commands(self) -> None:
         log = self.log()

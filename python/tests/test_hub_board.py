@@ -174,7 +174,7 @@ class Calls(BoardCase):
 
     async def test_bad_queries_are_refused_by_name(self) -> None:
         await self.serve()
-        for path, said in (("/v1/calls.json?radio=x", "radio: not a whole number: 1 to 16777215"), ("/v1/calls.json?size=5", "size: unknown key: there is radio, group, last"),
+        for path, said in (("/v1/calls.json?radio=x", "radio: not a whole number: 1 to 16777215"), ("/v1/calls.json?size=5", "size: unknown key: there is radio, group, from, to, last"),
                            ("/v1/calls.json?last=0", "last: out of range: 1 to 1000"), ("/v1/history.json?span=year", 'span: not "hour" or "day"'),
                            ("/v1/history.json?span=hour&span=day", "span: given twice"), ("/v1/history.json?drop=1001", "drop: unknown key: there is span")):
             answer = await self.get(path)

@@ -6,18 +6,22 @@ import tomllib
 import unittest
 
 from temzaar.console import Parties
-from temzaar.hub import audit, lineport, namebook, notes, places, recordreader, roles, session, turn
-from temzaar.hub.boardviews import CALL_KEYS, NAME_KEYS, RADIO_KEYS, call_view
+from temzaar.hub import audit, eventfeed, eventwatch, lineport, namebook, notes, places, recordreader, roles, session, turn
+from temzaar.hub.boardviews import CALL_KEYS, EVENT_KEYS, NAME_KEYS, RADIO_KEYS, call_view
 from temzaar.hub.config import Config, RoleKeys, read_config
 from temzaar.hub.counts import Histogram
+from temzaar.hub.eventlog import EventFilter, EventLog, KeptEvent
+from temzaar.hub.eventviews import event_view, events_view
 from temzaar.hub.lines import OWN
 from temzaar.hub.moment import Moment
+from temzaar.hub.newrecords import EVENT_SECONDS
 from temzaar.hub.pagefiles import load_page
 from temzaar.hub.recordsamples import KINDS, RecordSamples
 from temzaar.hub.samples import FIGURES, Samples
 from temzaar.hub.seencalls import MOST_ENDED, CallLog, SeenCall
 from temzaar.hub.session import HELP
-from temzaar.names import MOST_PRINTED, NO_NAMES
+from temzaar.names import MOST_PRINTED, NO_NAMES, Kind, names_of
+from temzaar.siteevents import MOST_OF_A_KIND, NEED_ACKNOWLEDGEMENT, EventKind, SiteEvent
 from tests.hub_support import HubCase, wait_until
 from tests.made_records import make_records
 from tests.support import TOP, metric_rows, read_document, table_rows
@@ -54,7 +58,7 @@ class Documented(unittest.TestCase):
 
     def test_the_page(self) -> None:
         """Queries, keys and figures of the page's paths, and how much memory they take."""
-        queries = [(title, name, kind.says) for title, kinds in (("radios", RADIO_KEYS), ("names", NAME_KEYS), ("calls", CALL_KEYS)) for name, kind in kinds.items()]
+        queries = [(title, name, kind.says) for title, kinds in (("radios", RADIO_KEYS), ("names", NAME_KEYS), ("calls", CALL_KEYS), ("events", EVENT_KEYS)) for name, kind in kinds.items()]
         self.assertEqual([tuple(row[:3]) for row in table_rows(HUB, "| query of | key")], queries)
         self.assertEqual([row[0] for row in table_rows(HUB, "| figure | what it is")], [*FIGURES])
         self.assertEqual([name for row in table_rows(HUB, "| count | what it is") for name in row[0].split(", ")], [*KINDS])
@@ -85,6 +89,20 @@ class Documented(unittest.TestCase):
         """What the hub notes of bad lines."""
         self.assertEqual(MOST_PRINTED, 5)
         self.assertIn("The hub notes five of them", HUB)
+
+    def test_events(self) -> None:
+        """The kinds, and which need an acknowledgement; how many are kept, and how much is read; and the keys of an event."""
+        rows = table_rows(HUB, "| event | what happened")
+        self.assertEqual({row[0]: row[3] != "no" for row in rows}, {kind.value: kind in NEED_ACKNOWLEDGEMENT for kind in EventKind})
+        limits = dict(table_rows(HUB, "| what | limit |"))  # type: ignore[arg-type]
+        self.assertIn(f"the newest {MOST_OF_A_KIND} of each kind", limits["events"])
+        self.assertIn(f"{audit.TAIL_OCTETS // 1024} KiB each", limits["what is read of events at the hub's start"])
+        self.assertEqual((EVENT_SECONDS, eventfeed.SLACK_SECONDS, eventfeed.SLACK_POLLS, eventwatch.AWAY_SECONDS, eventwatch.REJOIN_SECONDS, eventwatch.RECORDS_SECONDS), (86_400, 5, 5, 1, 10, 60))
+        event = SiteEvent(0, EventKind.REFUSED, 1, 2, 3, "none", "stay", "alice", "ok", 2, 5)
+        names = names_of([((Kind.CARRIER, 1), "A"), ((Kind.RADIO, 2), "B"), ((Kind.RADIO, 3), "C")])
+        keys = [*event_view(KeptEvent(1, event, True), None, names), *events_view(EventLog(), EventFilter(), 1, None, NO_NAMES)]
+        named = " ".join(cell for row in table_rows(HUB, "| key of the list of events") for cell in row)
+        self.assertEqual([name for name in keys if not re.search(rf"\b{name}\b", named)], [])
 
     def test_own_commands(self) -> None:
         self.assertEqual({row[0].split()[0].rstrip(",") for row in table_rows(HUB, "| line | reply")}, set(OWN))

@@ -18,7 +18,7 @@ from temzaar.hub import notes
 from temzaar.hub.config import RecordsKeys
 from temzaar.hub.controllerversion import read_controller_version
 from temzaar.hub.moment import Moment
-from temzaar.hub.newrecords import read_new, reason_text, signature
+from temzaar.hub.newrecords import read_new, signature
 from temzaar.hub.recordcounts import RecordCounts, RecordedLog
 from temzaar.hub.recordreader import RecordReader
 from temzaar.hub.seencalls import RECORD, CallFilter, CallLog, SeenCall, pack_call, unpack_call
@@ -116,9 +116,6 @@ class New(Folder):
         counts = RecordCounts()
         self.assertIsNone(self.counted(make_records(self.folder / "site.db", terms=0), counts, None))
         self.assertEqual((self.figures(counts)["dmr_site_terms_total"], self.figures(counts).get("dmr_site_longest_queue")), (0, None))
-
-    def test_reasons(self) -> None:
-        self.assertEqual([reason_text(it) for it in (0x2F, 0x7A, 5, None)], ["Group_Not_Allowed", "0x7A", "0x05", "none"])
 
     def test_signature(self) -> None:
         path = make_records(self.folder / "site.db", terms=1)

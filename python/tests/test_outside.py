@@ -22,10 +22,10 @@ from temzaar.cli import callbook, carriers, check, console, hub, siteview, timel
 from temzaar.cli.command import print_note
 from temzaar.frames import FROM_CARRIER, POLL, Cutter, hello
 from temzaar.hub import notes
-from temzaar.hub.newrecords import BadRow, NewRecords, count_calls
+from temzaar.hub.newrecords import NewRecords, count_calls
 from temzaar.picture import MOST_WAITING, ask_picture
 from temzaar.printable import printable
-from temzaar.records import RecordsFault, opened_records
+from temzaar.records import BadRow, RecordsFault, opened_records
 from tests.fake_console import FakeConsole
 from tests.hub_support import HubCase, wait_until
 from tests.made_records import locked, make_records

@@ -1,64 +1,15 @@
 """The page's alarms in a headless Chromium, over a hub that asks a stand-in for the console: what the site cannot do is said, and nothing that is not so."""
 import os
-import pathlib
-import re
-import subprocess
-import tempfile
-import time
 import unittest
 
-from temzaar.ports import free_ports
-from temzaar.process import ends_with_parent
-from tests.browser import Chromium, find_chromium
-from tests.fake_console import FakeConsole
-from tests.made_records import add_term, make_records
-from tests.support import tool_words
+from tests.made_records import add_term
+from tests.page_standin import OFF_AIR, UP, StandInPage
 
-UP = ["slot 0 0 control", "slot 0 1 free", "slot 1 0 call", "slot 1 1 free", "end"]
-OFF_AIR = ["slot 0 0 control", "slot 0 1 down", "slot 1 0 free", "slot 1 1 free", "end"]
 WAITING = ["slot 0 0 control", "slot 0 1 free", "slot 1 0 waiting", "slot 1 1 free", "end"]
 
 
-class Alarms(unittest.TestCase):
+class Alarms(StandInPage):
     """One session, in its order."""
-
-    def setUp(self) -> None:
-        found = find_chromium()
-        folder = tempfile.TemporaryDirectory()
-        self.addCleanup(folder.cleanup)
-        self.folder = pathlib.Path(folder.name)
-        self.fake = FakeConsole()
-        self.addCleanup(self.fake.stop)
-        self.fake.replies["slots"] = UP
-        self.records = make_records(self.folder / "site.db", terms=2)
-        self.port = free_ports(1)
-        self.start_hub()
-        self.browser = Chromium(found)
-        self.addCleanup(self.browser.close)
-
-    def start_hub(self) -> None:
-        """Starts the hub of the site `Depot North`."""
-        site, config = self.folder / "north.toml", self.folder / "hub.toml"
-        site.write_text(f"console_port = {self.fake.port}\nsilence = 600\n", encoding="utf-8")
-        config.write_text(f'[controller]\nsite_file = "{site}"\nname = "Depot North"\n[poll]\nstate_seconds = 0.1\n[http]\nport = {self.port}\n[line_port]\nsocket = "{self.folder}/s"\n'
-                          f'[audit]\nfile = "{self.folder}/audit.jsonl"\n[records]\nfile = "{self.records}"\nread_seconds = 0.2\n', encoding="utf-8")
-        hub = subprocess.Popen(tool_words("hub", "--config", str(config)), stderr=subprocess.DEVNULL, preexec_fn=ends_with_parent())
-        self.addCleanup(hub.wait, 20)
-        self.addCleanup(hub.terminate)
-
-    def open_page(self) -> None:
-        """Opens the page, once the hub serves it."""
-        until = time.monotonic() + 30
-        while True:
-            self.browser.open(f"http://127.0.0.1:{self.port}/")
-            if self.browser.evaluate("document.getElementById('alarms') !== null"):
-                return
-            self.assertLess(time.monotonic(), until)
-            time.sleep(0.1)
-
-    def wait_for_text(self, selector: str, pattern: str) -> None:
-        """Waits until an element shows a text."""
-        self.browser.wait_until(lambda: bool(re.search(pattern, self.browser.text(selector))), f"{selector}: {pattern}")
 
     def test_a_session(self) -> None:
         self.open_page()

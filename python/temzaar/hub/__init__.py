@@ -18,9 +18,13 @@ Modules, lowest first:
     recordsamples  counts of the records over the last hour and the last day
     termwatch  terms that come late, and polls that are missing
     recordgapcounts  the times that the records do not have
+    slotuse    slots in use by the records, for times of which there is no picture
     recordreader   looks at the file every few seconds
     model      the state of the site, as the last answers had it
     namebook   the names of the file of names, which is read again when it changes
+    eventlog   what happened at the site, in memory of a fixed size
+    eventfeed  events of the records and of the audit log
+    eventwatch events that the hub sees
     poller     keeps the model up to date
     lines      the lines of operators
     roles      who a peer is, and what it may do
@@ -30,6 +34,7 @@ Modules, lowest first:
     session    an operator's connection: lines and their replies
     lineport   the port that operators connect to
     views      the site as JSON and as metrics, and whether all is well
+    eventviews the events as JSON, and as rows of the line port
     httpread   requests of HTTP, read from octets
     web        the HTTP port
     query      the queries of HTTP paths

@@ -1,10 +1,12 @@
 """The audit log: a line of JSON for each step of a command that changes the site. A line is on the disk before the step after it begins."""
 import asyncio
+import contextlib
 import json
 import os
+import stat
 from collections import deque
-from collections.abc import Callable, Mapping
-from typing import Any
+from collections.abc import Callable, Iterator, Mapping
+from typing import Any, TypeVar
 
 from temzaar.faults import ToolFault
 from temzaar.hub.config import AuditKeys
@@ -14,9 +16,14 @@ from temzaar.hub.worker import Late, Worker
 REMEMBERED = 100
 MODE = 0o640
 # Records that `history` does not show.
-STEPS_BETWEEN = ("asked", "refusals")
+STEPS_BETWEEN = ("asked", "refusals", "acknowledged")
+# How many octets at the end of a file are read at the hub's start.
+TAIL_OCTETS = 1 << 19
 # Seconds that the disk may take for a record. While it takes longer, further records fail at once.
 WRITE_SECONDS = 10.0
+
+
+Result = TypeVar("Result")
 
 
 class AuditFault(ToolFault):
@@ -24,7 +31,7 @@ class AuditFault(ToolFault):
 
 
 class AuditLog:
-    """The file. It is opened again if something else is at its path, as after `logrotate` has moved it."""
+    """The file. It is opened again if something else is at its path, as after `logrotate` has moved it. `on_record` is called after a record was written."""
 
     def __init__(self, keys: AuditKeys) -> None:
         self.path, self.max_octets, self.keep = keys.file, keys.max_octets, keys.keep
@@ -33,6 +40,7 @@ class AuditLog:
         self.turn = asyncio.Lock()
         self.recent, self.refused = (deque[dict[str, Any]](maxlen=REMEMBERED) for _ in range(2))
         self.fault: str | None = None
+        self.on_record: Callable[[Mapping[str, Any]], None] = lambda _: None
 
     async def record(self, record: Mapping[str, Any]) -> None:
         """Appends a record. AuditFault: it is not, or not surely, on the disk."""
@@ -43,6 +51,7 @@ class AuditLog:
                 self.refused.append(dict(record))
             elif record.get("event") not in STEPS_BETWEEN:
                 self.recent.append(dict(record))
+        self.on_record(record)
 
     def last(self, count: int) -> list[dict[str, Any]]:
         """The last commands, `count` of them, and as many that were refused, in the order of their times."""
@@ -53,10 +62,15 @@ class AuditLog:
         async with self.turn:
             await self._do(self.open)
 
-    async def _do(self, work: Callable[[], object]) -> None:
-        """Does work with the file in its thread. AuditFault: it failed, or has not ended in time."""
+    async def read_last(self) -> list[dict[str, Any]]:
+        """The last records, also those of the file before this one, if it is `FILE.1`; oldest first. AuditFault: they cannot be read in time."""
+        async with self.turn:
+            return await self._do(lambda: [*tail_records(f"{self.path}.1"), *tail_records(self.path)])
+
+    async def _do(self, work: Callable[[], Result]) -> Result:
+        """The result of work with the file in its thread. AuditFault: it failed, or has not ended in time."""
         try:
-            await self.worker.do(work)
+            result = await self.worker.do(work)
         except Late as fault:
             self.fault = f"cannot write {self.path}: {fault}"
             raise AuditFault(self.fault) from fault
@@ -65,6 +79,7 @@ class AuditLog:
             self._close_file()
             raise AuditFault(self.fault) from fault
         self.fault = None
+        return result
 
     def append(self, line: bytes) -> None:
         """Appends a line, and waits until it is on the disk. OSError: it is not."""
@@ -124,3 +139,20 @@ class AuditLog:
         if self.file is not None:
             os.close(self.file)
             self.file = None
+
+
+def tail_records(path: str) -> Iterator[dict[str, Any]]:
+    """The records in the last octets of a file; none if it cannot be read. Other lines are left out."""
+    with contextlib.suppress(OSError), open(os.open(path, os.O_RDONLY | os.O_NONBLOCK | os.O_NOFOLLOW | os.O_CLOEXEC), "rb") as file:
+        state = os.fstat(file.fileno())
+        if not stat.S_ISREG(state.st_mode):
+            return
+        first = max(0, state.st_size - TAIL_OCTETS)
+        file.seek(first)
+        lines = file.read(TAIL_OCTETS).split(b"\n")
+        for line in lines[1:] if first else lines:
+            # RecursionError: a line of brackets alone
+            with contextlib.suppress(ValueError, RecursionError):
+                record = json.loads(line)
+                if isinstance(record, dict):
+                    yield record

@@ -1,11 +1,13 @@
-"""What the hub shows to its page, and to other readers of parts: the state without radios, the radios, the seen calls, and the samples, as JSON."""
+"""What the hub shows to its page, and to other readers of parts: the state without radios, the radios, the seen calls, the events, and the samples, as JSON."""
 import time
 from collections.abc import Callable
 from dataclasses import dataclass, field
 from typing import Any
 
+from temzaar.hub.eventlog import EventFilter
+from temzaar.hub.eventviews import events_view
 from temzaar.hub.httpread import Request
-from temzaar.hub.keys import Choice, Sought, Whole
+from temzaar.hub.keys import Choice, Instant, Sought, Whole
 from temzaar.hub.model import SiteModel
 from temzaar.hub.moment import Moment, utc_text
 from temzaar.hub.namebook import Row
@@ -22,9 +24,10 @@ from temzaar.recordgaps import gaps_within
 
 # How many calls a response has, if the query does not say, and at most.
 USUAL_CALLS, MOST_CALLS = 100, 1000
-# How many responses are kept, each of some 257,000 octets at most.
+# How many responses of a path are kept, each of some 400,000 octets at most.
 MOST_KEPT = 16
-CALL_KEYS = {"radio": Whole(1, LAST_RADIO), "group": Whole(1, LAST_RADIO), "last": Whole(1, MOST_CALLS)}
+CALL_KEYS = {"radio": Whole(1, LAST_RADIO), "group": Whole(1, LAST_RADIO), "from": Instant(), "to": Instant(), "last": Whole(1, MOST_CALLS)}
+EVENT_KEYS = {"from": Instant(), "to": Instant(), "refusals": Choice("yes", "no"), "last": Whole(1, MOST_CALLS)}
 RADIO_KEYS = {"begins": Whole(1, LAST_RADIO), "most": Whole(1, MOST_CALLS)}
 NAME_KEYS = {"find": Sought(MOST_CHARACTERS), "most": Whole(1, MOST_CALLS)}
 HISTORY_KEYS = {"span": Choice(*SPANS)}
@@ -52,6 +55,7 @@ class BoardViews:
     views: Views
     kept_radios: Kept = field(default_factory=Kept)
     kept_calls: Kept = field(default_factory=Kept)
+    kept_events: Kept = field(default_factory=Kept)
     kept_history: Kept = field(default_factory=Kept)
     kept_names: Kept = field(default_factory=Kept)
 
@@ -110,11 +114,13 @@ class BoardViews:
     def _make_calls(self, text: str) -> Response:
         """The calls by a query. BadRequest: it is refused."""
         query, log = read_query(text, CALL_KEYS), self.model.calls
-        found = self._find_calls(CallFilter(query.get("radio"), query.get("group")), query.get("last", USUAL_CALLS))
-        until = self.views.records.log.until if self.views.records else None
+        first, last = (query[name] / 1000 if name in query else None for name in ("from", "to"))
+        wanted, most = CallFilter(query.get("radio"), query.get("group"), first, last), query.get("last", USUAL_CALLS)
+        found, recorded = self._find_calls(wanted, most + 1), self.views.records.log if self.views.records else None
+        until, ring = recorded.until if recorded else None, recorded.ended if recorded else log.ended
         view = {"since": utc_text(self.views.begun.wall, decimals=True), "poll_seconds": self.views.config.poll.state_seconds, "seen": log.count, "kept": log.ended.size,
-                "recorded_until": None if until is None else utc_text(until, decimals=True), "calls": [call_view(it, self.names) for it in found],
-                "name": self._name_asked(query)}
+                "recorded_until": None if until is None else utc_text(until, decimals=True), "complete": len(found) <= most and not ring.has_lost(first),
+                "calls": [call_view(it, self.names) for it in found[:most]], "name": self._name_asked(query)}
         return tagged_response(json_octets(view), JSON)
 
     def _name_asked(self, query: dict[str, Any]) -> str | None:
@@ -128,6 +134,18 @@ class BoardViews:
         if self.views.records is None:
             return self.model.calls.find(wanted, most)
         return self.views.records.log.find(self.model.calls, wanted, most, MISSED_POLLS * self.views.config.poll.state_seconds)
+
+    def events_json(self, request: Request) -> Response:
+        """The events by the query. The response stays the same until one is added or changes. BadRequest: the query is refused."""
+        made_of = self.views.events.version, self.model.control, self.views.book.version
+        return self.kept_events.find(made_of, request.query, lambda: self._make_events(request.query))
+
+    def _make_events(self, text: str) -> Response:
+        """The events by a query. BadRequest: it is refused."""
+        query = read_query(text, EVENT_KEYS)
+        wanted = EventFilter(query.get("from"), query.get("to"), query.get("refusals") != "no")
+        view = events_view(self.views.events, wanted, query.get("last", USUAL_CALLS), self.model.control, self.names)
+        return tagged_response(json_octets(view), JSON)
 
     def history_json(self, request: Request) -> Response:
         """The samples of a span. The response stays the same within a second, until a new picture or term. BadRequest: the query is refused."""

@@ -5,10 +5,12 @@ range are faults, which name the key.
 """
 import dataclasses
 from collections.abc import Mapping
+from datetime import datetime
 from typing import Any, Protocol, TypeVar
 from urllib.parse import unquote
 
 from temzaar.faults import ToolFault
+from temzaar.moments import LAST_MS, milliseconds_of
 
 Section = TypeVar("Section")
 
@@ -100,6 +102,28 @@ class Sought:
         if not text.isprintable() or not 1 <= len(text) <= self.most:
             raise ValueError(f"not {self.says}")
         return text
+
+
+class Instant:
+    """A time, as a query of HTTP has it: of ISO 8601, with a zone, or in milliseconds since 1970. Other characters than letters and digits may be written as `%HH`."""
+    says = "a time with a zone, as 2026-11-27T08:00:00Z, or milliseconds since 1970"
+    # how many characters a text has at most, if each is written as it is
+    most = 40
+
+    def read(self, value: Any) -> int:
+        """The time, in milliseconds since 1970."""
+        try:
+            text = unquote(value, errors="strict") if len(value) <= 3 * self.most else ""
+            if text.isascii() and text.isdecimal():
+                found = int(text)
+            else:
+                moment = datetime.fromisoformat(text)
+                found = -1 if moment.tzinfo is None else milliseconds_of(moment)
+        except (ValueError, OverflowError):
+            found = -1
+        if not 0 <= found <= LAST_MS:
+            raise ValueError(f"not {self.says}")
+        return found
 
 
 class Choice:

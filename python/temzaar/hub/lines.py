@@ -6,13 +6,19 @@ from dataclasses import dataclass
 from temzaar.console import CHANGES, LISTS, LONGEST_LINE, QUESTIONS
 
 # The hub answers these itself, with lists.
-OWN = ("help", "history", "names", "who")
+ACKNOWLEDGE = "acknowledge"
+OWN = ("help", "history", "names", "who", "events", ACKNOWLEDGE)
+# In the place of numbers: each event that waits for an acknowledgement.
+ALL = "all"
 # What the hub answers while the controller does not, and to a line that has no answer or was not sent; the reason follows.
 AWAY, NO_ANSWER, BUSY = "the controller is away", "no answer", "the hub is busy"
 # How the row of `who` begins that has the site's name.
 WHO_SITE = "who site "
 # How each row of `names` begins.
 NAME = "name "
+# How each row of `events` begins, and the words of a row for an event that nobody has to acknowledge, or that somebody has to.
+EVENT = "event "
+PLAIN, WAITS = "-", "waits"
 # The commands of a line port whose replies are lists.
 HUB_LISTS = (*LISTS, *OWN)
 

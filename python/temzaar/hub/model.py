@@ -29,6 +29,8 @@ class SiteModel:
     """The last picture and the last list of radios, each with its time. They are kept while the controller is away, as are calls and samples of earlier ones."""
     picture: Picture | None = None
     seen: Moment | None = None
+    # when the first picture of this connection to the controller was taken
+    first_seen: Moment | None = None
     ages: Ages = field(default_factory=Ages)
     carriers: dict[int, CarrierState] = field(default_factory=dict)
     # the slots whose state is `waiting`, and since when
@@ -41,10 +43,15 @@ class SiteModel:
     samples: Samples = field(default_factory=Samples)
     waits: Histogram = field(default_factory=lambda: Histogram("dmr_site_queue_wait_seconds", "How long requests waited for a slot until they left the queue, as the hub saw them.", WAIT_BUCKETS))
 
+    @property
+    def control(self) -> int | None:
+        """The carrier with the control channel, by the last picture; None if that is not known."""
+        return self.picture.control if self.picture else None
+
     def take_picture(self, picture: Picture, now: Moment) -> None:
         """A picture was taken."""
         self._count_waits(picture, now)
-        self.picture, self.seen = picture, now
+        self.picture, self.seen, self.first_seen = picture, now, self.first_seen or now
         self.ages.look(picture, now.steady)
         before = self.carriers
         self.carriers = {}
@@ -93,6 +100,6 @@ class SiteModel:
 
     def begin(self) -> None:
         """A new connection begins. The site may be another one since a restart, so the ages of what it shows are not known."""
-        self.ages, self.waiting = Ages(), {}
+        self.first_seen, self.ages, self.waiting = None, Ages(), {}
         self.watch.begin()
         self.calls.begin()

@@ -6,25 +6,26 @@ from collections import Counter
 from collections.abc import Iterable
 from dataclasses import dataclass, field
 
-from temzaar import pdus
 from temzaar.console import Parties
 from temzaar.faults import FileState, file_state
 from temzaar.hub.moment import Moment
 from temzaar.hub.recordsamples import Happened
 from temzaar.hub.samples import SPANS
 from temzaar.hub.seencalls import MOST_ENDED, SeenCall, pack_call
+from temzaar.hub.slotuse import Used, slots_used
 from temzaar.picture import LAST_RADIO
 from temzaar.recordgaps import Gap, find_gaps
-from temzaar.records import LOG, RecordedCall, RecordedTerm, Records, RecordsFault, opened_records
+from temzaar.records import LAST_CARRIER, LAST_SLOT, LOG, BadRow, RecordedCall, RecordedTerm, Records, RecordsFault, is_whole, opened_records, require
+from temzaar.siteevents import SiteEvent, reason_text, recorded_events
 
 # Seconds for which a look at the file waits while the controller writes; then the hub tries again at the next look.
 LOCK_SECONDS = 0.5
 # Seconds: a call lasts from the hang time, some seconds, up to the maximum of the site file, some minutes.
 DURATION_BUCKETS = (1.0, 2.0, 5.0, 10.0, 20.0, 30.0, 60.0, 120.0, 180.0, 300.0)
+# How old an event is at most that is read, in seconds.
+EVENT_SECONDS = 86_400
 # The columns of `terms` that are summed.
 SUMMED = ("registrations", "heard", "noise", "polls", "grants", "late_entries")
-# The greatest number of a carrier, and of a slot.
-LAST_CARRIER, LAST_SLOT = 15, 1
 
 Signature = tuple[FileState, FileState]
 
@@ -45,7 +46,8 @@ class Durations:
 class NewRecords:
     """What is new. `last` is the newest term, None if there is none; `terms` is how many are new. Calls are counted by kind and cause, refusals by reason.
     `newest` has the newest calls in their order, each as the record of a SeenCall, and `happened` has counts for the samples of each span. `begins_ms` is when the
-    first of the new terms began; `gaps` are the times that are not recorded, up to the last of them."""
+    first of the new terms began; `gaps` are the times that are not recorded, up to the last of them. `events` are those of the last day, and `used` is how many slots had a
+    call in samples of each span."""
     last: RecordedTerm | None = None
     terms: int = 0
     sums: dict[str, int] = field(default_factory=lambda: dict.fromkeys(SUMMED, 0))
@@ -56,21 +58,8 @@ class NewRecords:
     happened: dict[str, list[Happened]] = field(default_factory=dict)
     begins_ms: int | None = None
     gaps: list[Gap] = field(default_factory=list)
-
-
-class BadRow(ValueError):
-    """A row has a value that the controller does not write. The text names the table, the row and the value."""
-
-
-def require(holds: bool, row: str, about: str) -> None:
-    """BadRow: something does not hold of a row."""
-    if not holds:
-        raise BadRow(f"{row}: {about}")
-
-
-def is_whole(value: object, least: int | None = None, most: int | None = None) -> bool:
-    """Whether a value is a whole number, in a range."""
-    return isinstance(value, int) and (least is None or value >= least) and (most is None or value <= most)
+    events: list[SiteEvent] = field(default_factory=list)
+    used: dict[str, list[Used]] = field(default_factory=dict)
 
 
 def seen_call(call: RecordedCall) -> SeenCall:
@@ -111,13 +100,6 @@ def last_known(records: Records, last: RecordedTerm | None) -> int:
     # the term has been removed with other old rows, or another file is at this path, whose terms begin at 1
     greatest = records.conn.execute("SELECT max(number) FROM terms").fetchone()[0] or 0
     return last.number if greatest > last.number else 0
-
-
-def reason_text(reason: int | None) -> str:
-    """A reason code, by its name if it has one."""
-    if reason is None:
-        return "none"
-    return pdus.REASONS[reason].name if reason in pdus.REASONS else f"0x{reason:02X}"
 
 
 def count_calls(rows: Iterable[tuple[int, int, str, float]], new: NewRecords) -> None:
@@ -170,3 +152,6 @@ def take_new(records: Records, last: RecordedTerm | None, new: NewRecords) -> No
     require(new.begins_ms is None or is_whole(new.begins_ms), "terms", f"a term began at {new.begins_ms!r}")
     new.newest = [pack_call(seen_call(it)) for it in records.calls(("term > ?", [since]), last=MOST_ENDED)]
     new.happened = {span: happened_since(records, since, span) for span in SPANS}
+    now = Moment.now()
+    new.events = recorded_events(records, since, int(1000 * (now.wall - EVENT_SECONDS)))
+    new.used = slots_used(records, since, now)

@@ -6,7 +6,7 @@ from temzaar.hub.web import Response, tagged_response
 
 FOLDER = pathlib.Path(__file__).resolve().parent / "page"
 START, PREFIX = "index.html", "/page/"
-NAMES = (START, "colours.css", "board.css", "parts.css", "icon.svg", "theme.js", "board.js", "alarms.js", "elements.js", "tables.js", "charts.js", "history.js")
+NAMES = (START, "colours.css", "board.css", "parts.css", "icon.svg", "theme.js", "board.js", "alarms.js", "events.js", "elements.js", "tables.js", "charts.js", "history.js")
 KINDS = {".html": "text/html; charset=utf-8", ".css": "text/css; charset=utf-8", ".js": "text/javascript; charset=utf-8", ".svg": "image/svg+xml"}
 # The most octets of a file.
 MOST_OCTETS = 1 << 16

@@ -22,12 +22,13 @@ SHORTEST_PAUSE = 0.01
 
 @dataclass
 class Poller:
-    """Asks for pictures and for the registered radios while the controller answers."""
+    """Asks for pictures and for the registered radios while the controller answers. `on_picture` is called after each picture."""
     link: ConsoleLink
     model: SiteModel
     keys: PollKeys
     early_state: asyncio.Event = field(default_factory=asyncio.Event)
     early_radios: asyncio.Event = field(default_factory=asyncio.Event)
+    on_picture: Callable[[], None] = lambda: None
 
     def __post_init__(self) -> None:
         self.pacer = Pacer(self.keys.questions_per_second)
@@ -67,6 +68,7 @@ class Poller:
             self.model.begin()
         picture = await self._ask_all(ask_picture())
         self.model.take_picture(picture, Moment.now())
+        self.on_picture()
 
     async def _poll_radios(self) -> None:
         """Lists the registered radios."""

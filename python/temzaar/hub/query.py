@@ -4,7 +4,7 @@ from http import HTTPStatus
 from typing import Any
 
 from temzaar.hub.httpread import BadRequest
-from temzaar.hub.keys import Kind, Sought
+from temzaar.hub.keys import Instant, Kind, Sought
 
 # How many digits a number has at most, and how much of an unknown key is shown.
 MOST_DIGITS, MOST_SHOWN = 8, 40
@@ -20,8 +20,8 @@ def read_query(text: str, kinds: Mapping[str, Kind]) -> dict[str, Any]:
         if name in values:
             raise refusal(name, "given twice")
         try:
-            # in a text zeros before a number count
-            values[name] = kinds[name].read(value if isinstance(kinds[name], Sought) else read_value(value))
+            # in a text zeros before a number count, and a time has more digits
+            values[name] = kinds[name].read(value if isinstance(kinds[name], Sought | Instant) else read_value(value))
         except ValueError as fault:
             raise refusal(name, str(fault)) from fault
     return values

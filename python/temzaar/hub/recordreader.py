@@ -2,28 +2,34 @@
 import asyncio
 import sqlite3
 import time
+from collections.abc import Callable
 
 from temzaar.faults import ToolFault
 from temzaar.hub.config import RecordsKeys
 from temzaar.hub.controllerversion import read_controller_version
+from temzaar.hub.moment import Moment
 from temzaar.hub.newrecords import NewRecords, Signature, read_new, signature
 from temzaar.hub.notes import note, warn
 from temzaar.hub.recordcounts import RecordCounts, RecordedLog
 from temzaar.hub.recordgapcounts import RecordGaps
 from temzaar.hub.recordsamples import RecordSamples
+from temzaar.hub.samples import Samples
 from temzaar.hub.termwatch import TermWatch
 from temzaar.hub.worker import Late, Worker
 from temzaar.records import RecordedTerm
+from temzaar.siteevents import SiteEvent
 
 # Seconds that a look may take: a file of 256 MiB on a slow disk is read within them.
 LOOK_SECONDS = 60.0
 
 
 class RecordReader:
-    """The file's new rows, as counters, calls, and counts of the last hour and day."""
+    """The file's new rows, as counters, calls, counts of the last hour and day, and events, which `on_events` takes. `figures` are the samples of the hub's pictures: those
+    without a picture are filled from the records, as far as these go."""
 
-    def __init__(self, keys: RecordsKeys) -> None:
+    def __init__(self, keys: RecordsKeys, figures: Samples | None = None, on_events: Callable[[list[SiteEvent]], None] = lambda _: None) -> None:
         self.keys, self.worker = keys, Worker("records", LOOK_SECONDS)
+        self.figures, self.on_events = figures or Samples(), on_events
         self.counts, self.log, self.samples = RecordCounts(), RecordedLog(), RecordSamples()
         self.gaps, self.watch = RecordGaps(), TermWatch()
         self.last: RecordedTerm | None = None
@@ -63,6 +69,8 @@ class RecordReader:
             self.counts.take(new)
             self.log.take(new)
             self.gaps.take(new)
+            self.figures.refill("slots_in_use", new.used, Moment.now())
+            self.on_events(new.events)
 
     def _fail(self, fault: str) -> None:
         """Counts and notes a look that failed."""

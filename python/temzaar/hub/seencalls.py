@@ -63,14 +63,21 @@ def unpack_call(record: tuple[Any, ...]) -> SeenCall:
 
 @dataclass(frozen=True)
 class CallFilter:
-    """Which calls are asked for: those that a radio makes or receives, and those to a group; None: of any."""
+    """Which calls are asked for: those that a radio makes or receives, those to a group, and those that were active at some time between two; None: of any. Times are in
+    seconds since 1970."""
     radio: int | None = None
     group: int | None = None
+    first: float | None = None
+    last: float | None = None
 
     def passes(self, is_group: bool, target: int, source: int) -> bool:
         """Whether a call with these parties is asked for."""
         has_radio = self.radio is None or self.radio == source or (not is_group and self.radio == target)
         return has_radio and (self.group is None or (is_group and self.group == target))
+
+    def is_in_time(self, began: float, ended: float | None) -> bool:
+        """Whether a call of this time is asked for; one without an end is active."""
+        return (self.first is None or ended is None or ended >= self.first) and (self.last is None or began <= self.last)
 
 
 class CallRing:
@@ -92,13 +99,20 @@ class CallRing:
     def __len__(self) -> int:
         return min(self.count, self.size)
 
+    def has_lost(self, first: float | None) -> bool:
+        """Whether a call that was active at a time, or later, may have been displaced. None: at any time."""
+        if self.count <= self.size:
+            return False
+        oldest = unpack_call(RECORD.unpack_from(self.octets, self.count % self.size * RECORD.size))
+        return first is None or (oldest.ended is not None and first < oldest.ended.wall)
+
     def find(self, wanted: CallFilter) -> Iterator[SeenCall]:
         """The calls that are asked for, the last to end first."""
         for back in range(1, len(self) + 1):
             # most records are not asked for, and making a call of each would take several times as long
             record = RECORD.unpack_from(self.octets, (self.count - back) % self.size * RECORD.size)
-            _, _, _, target, source, flags, *_ = record
-            if wanted.passes(bool(flags & IS_GROUP), target, source):
+            _, _, _, target, source, flags, began, _, ended, _ = record
+            if wanted.passes(bool(flags & IS_GROUP), target, source) and wanted.is_in_time(began, ended):
                 yield unpack_call(record)
 
 
@@ -141,5 +155,5 @@ class CallLog:
 
     def search(self, wanted: CallFilter) -> Iterator[SeenCall]:
         """All calls that are asked for, in the order of `find`, one by one."""
-        active = [it for it in self.active.values() if wanted.passes(it.parties.kind == "group", it.parties.target, it.parties.source)]
+        active = [it for it in self.active.values() if wanted.passes(it.parties.kind == "group", it.parties.target, it.parties.source) and wanted.is_in_time(it.began.wall, None)]
         return chain(sorted(active, key=lambda it: -it.number), self.ended.find(wanted))

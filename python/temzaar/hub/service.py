@@ -11,12 +11,16 @@ from temzaar.hub.audit import AuditFault, AuditLog
 from temzaar.hub.boardviews import BoardViews
 from temzaar.hub.config import Config
 from temzaar.hub.counts import HubCounts
+from temzaar.hub.eventfeed import EventFeed
+from temzaar.hub.eventlog import EventLog
+from temzaar.hub.eventwatch import EventWatch
 from temzaar.hub.httpread import Request
 from temzaar.hub.lineport import STOP_SECONDS, LinePort
 from temzaar.hub.link import ConsoleLink
 from temzaar.hub.model import SiteModel
 from temzaar.hub.moment import Moment
 from temzaar.hub.namebook import NameBook
+from temzaar.hub.newrecords import EVENT_SECONDS
 from temzaar.hub.notes import note, notify_systemd, warn, watchdog_seconds
 from temzaar.hub.pagefiles import PREFIX, load_page
 from temzaar.hub.poller import Poller
@@ -33,14 +37,19 @@ class Hub:
 
     def __init__(self, config: Config, rules: Rules) -> None:
         self.config, self.counts, self.model = config, HubCounts(), SiteModel()
+        begun = Moment.now()
+        self.events = EventLog(int(1000 * (begun.wall - EVENT_SECONDS)))
+        self.feed = EventFeed(self.events, config.poll.state_seconds, int(1000 * begun.wall))
         self.link = ConsoleLink(self._read_place, config.controller, self.counts, self._report_link)
         self.poller = Poller(self.link, self.model, config.poll)
         self.audit = AuditLog(config.audit)
         self.book = NameBook(config.names)
-        self.desk = Desk(self.link, self.audit, config.line_port, self.counts, self.poller.hurry, config.controller.name, self.book)
+        self.desk = Desk(self.link, self.audit, config.line_port, self.counts, self.poller.hurry, config.controller.name, self.book, self.events, lambda: self.model.control)
         self.line_port = LinePort(self.desk, rules)
-        self.records = RecordReader(config.records) if config.records.file else None
-        self.views = Views(config, self.link, self.model, self.counts, self.desk.sessions, Moment.now(), self.records, self.book)
+        self.records = RecordReader(config.records, self.model.samples, self.feed.take_recorded) if config.records.file else None
+        self.watch = EventWatch(self.feed, self.link, self.model, self.book, self.records)
+        self.poller.on_picture = self._look
+        self.views = Views(config, self.link, self.model, self.counts, self.desk.sessions, begun, self.records, self.book, self.events)
         self.board = BoardViews(self.views)
         views = {**self._load_page(), **self._views_for_machines()}
         self.web_port = WebPort(config.http, views, self.counts, [path for path in views if not path.startswith(PREFIX)])
@@ -50,7 +59,7 @@ class Hub:
         """The views for machines, by their paths."""
         board = self.board
         return {"/v1/site.json": lambda _: Response(self.views.site_json(), JSON), "/v1/state.json": board.state_json, "/v1/radios.json": board.radios_json,
-                "/v1/names.json": board.names_json, "/v1/calls.json": board.calls_json, "/v1/history.json": board.history_json,
+                "/v1/names.json": board.names_json, "/v1/calls.json": board.calls_json, "/v1/events.json": board.events_json, "/v1/history.json": board.history_json,
                 "/metrics": lambda _: Response(self.views.metrics(), METRICS), "/healthz": self._health}
 
     def _load_page(self) -> dict[str, View]:
@@ -76,9 +85,14 @@ class Hub:
         faults = self.views.health_faults()
         return Response("".join(f"{it}\n" for it in faults or ["ok"]).encode("utf-8", "replace"), TEXT, HTTPStatus.SERVICE_UNAVAILABLE if faults else HTTPStatus.OK)
 
+    def _look(self) -> None:
+        """Looks for events."""
+        self.watch.look(Moment.now())
+
     def _report_link(self) -> None:
         """Notes that the controller answers, or why it does not."""
         state = self.link.state
+        self._look()
         if state.is_up:
             note(f"controller: the console {self.link.place.name if self.link.place else ''} answers")
             self.poller.hurry()
@@ -103,11 +117,12 @@ class Hub:
         except AuditFault as fault:
             self.audit.close()
             raise AuditFault(f"audit log: {fault}") from fault
+        await self._restore_events()
         tasks: list[asyncio.Task[None]] = []
         waiting = asyncio.create_task(self.stopping.wait())
         try:
             await self._open_ports()
-            tasks += [asyncio.create_task(self.link.run()), asyncio.create_task(self.poller.run())]
+            tasks += [asyncio.create_task(self.link.run()), asyncio.create_task(self.poller.run()), asyncio.create_task(self.watch.run())]
             if self.records:
                 tasks.append(asyncio.create_task(self.records.run()))
             if self.book.is_used:
@@ -127,6 +142,15 @@ class Hub:
             await asyncio.wait({*tasks, waiting}, timeout=STOP_SECONDS)
             await self.desk.end()
             self.audit.close()
+
+    async def _restore_events(self) -> None:
+        """Begins the events with what the audit log has of them."""
+        try:
+            self.feed.restore(await self.audit.read_last(), self.events.begins_ms)
+        except AuditFault as fault:
+            warn(f"audit log: {fault}; who sent earlier commands is not known")
+        self.audit.on_record = self.feed.take_audit
+        self.watch.begin(self.views.begun)
 
     async def _open_ports(self) -> None:
         """Opens the ports. PortFault: one cannot be opened."""

@@ -2,7 +2,7 @@
 import asyncio
 import contextlib
 import time
-from collections.abc import Callable, Coroutine, Iterator
+from collections.abc import Callable, Coroutine, Iterable, Iterator
 from dataclasses import dataclass, field
 from typing import Any
 
@@ -10,7 +10,10 @@ from temzaar.console import TOO_LONG, UNKNOWN, are_numbers
 from temzaar.hub.audit import AuditFault, AuditLog
 from temzaar.hub.config import LinePortKeys, NamesKeys
 from temzaar.hub.counts import HubCounts
-from temzaar.hub.lines import NAME, NO_ANSWER, WHO_SITE, Line, LineCutter, LineKind, escape_octets
+from temzaar.hub.eventfeed import ACKNOWLEDGED, record_of_event
+from temzaar.hub.eventlog import Acknowledgement, EventLog, KeptEvent
+from temzaar.hub.eventviews import event_row, event_rows
+from temzaar.hub.lines import ACKNOWLEDGE, ALL, NAME, NO_ANSWER, WHO_SITE, Line, LineCutter, LineKind, escape_octets
 from temzaar.hub.link import ConsoleLink, NoAnswer
 from temzaar.hub.moment import utc_text
 from temzaar.hub.namebook import NameBook
@@ -34,6 +37,7 @@ MOST_REFUSALS, REFUSALS_SECONDS = 10, 3600.0
 # How the first line of a web page's request begins.
 HTTP = tuple(f"{it} ".encode() for it in ("GET", "HEAD", "POST", "PUT", "DELETE", "CONNECT", "OPTIONS", "TRACE", "PATCH"))
 HISTORY_ROWS, MOST_HISTORY_ROWS = 16, 100
+NOT_RECORDED = "not done: the audit log cannot be written"
 HELP = (
     ("status", "counts, and what a quiet control slot sends"),
     ("radios N", "16 registered radios, from radio N on"),
@@ -48,13 +52,15 @@ HELP = (
     ("history N", "the last N commands that change the site, 16 without N"),
     ("names K N ..", "the names of numbers N; K is radio, talkgroup or carrier"),
     ("who", "the controller, the site's name, and who is connected to the hub"),
+    ("events N", "the last N events of the site, 16 without N"),
+    ("acknowledge N ..", "acknowledges events N; `acknowledge all`: each that waits (role full)"),
 )
 
 
 @dataclass
 class Desk:
     """What all sessions share. `on_change` is called after a command has changed the site; `name` is that of the site, if the config has one. `book` has
-    the names of radios, talkgroups and carriers."""
+    the names of radios, talkgroups and carriers, and `events` what happened; `find_control` returns the carrier with the control channel, if that is known."""
     link: ConsoleLink
     audit: AuditLog
     keys: LinePortKeys
@@ -62,6 +68,8 @@ class Desk:
     on_change: Callable[[], None]
     name: str = ""
     book: NameBook = field(default_factory=lambda: NameBook(NamesKeys()))
+    events: EventLog = field(default_factory=EventLog)
+    find_control: Callable[[], int | None] = lambda: None
     sessions: dict[int, "Session"] = field(default_factory=dict)
     lines: Paces = field(default_factory=lambda: Paces(LINES_PER_SECOND, LINES_AT_ONCE))
     refusals: Paces = field(default_factory=lambda: Paces(REFUSALS_PER_SECOND))
@@ -168,6 +176,8 @@ class Session:
             return await self._ask(line)
         if line.kind == LineKind.CHANGE:
             return await self._change(line)
+        if line.name == ACKNOWLEDGE:
+            return await self._acknowledge(line)
         if line.kind == LineKind.OWN:
             return await self.desk.own_work.do(lambda: self._answer_own(line))
         return UNKNOWN
@@ -193,7 +203,7 @@ class Session:
             await self._record(line, record, "asked")
         except AuditFault:
             self.desk.counts.changes.add(command=line.name, outcome="not recorded")
-            return error_line("not done: the audit log cannot be written")
+            return error_line(NOT_RECORDED)
         outcome, reply = await self._do(line)
         with contextlib.suppress(AuditFault):
             await self._record(line, record, outcome, reply)
@@ -251,11 +261,11 @@ class Session:
     def _answer_own(self, line: Line) -> bytes:
         """The reply to one of the hub's own commands."""
         rows: Iterator[str]
-        if line.name == "history" and len(line.words) <= 2:
+        if line.name in ("history", "events") and len(line.words) <= 2:
             count = line.words[1] if len(line.words) == 2 else str(HISTORY_ROWS).encode()
             if not count.isdigit() or not 1 <= int(count[:4]) <= MOST_HISTORY_ROWS or len(count) > 8:
                 return UNKNOWN
-            rows = self._history_rows(int(count))
+            rows = self._history_rows(int(count)) if line.name == "history" else iter(event_rows(self.desk.events, int(count), self.desk.find_control()))
         elif line.name == "names":
             kind, *numbers = [it.decode("ascii", "replace") for it in line.words[1:]] or [""]
             if kind not in KINDS or not numbers or not are_numbers(numbers):
@@ -265,7 +275,39 @@ class Session:
             return UNKNOWN
         else:
             rows = self._who_rows() if line.name == "who" else (f"help {command}: {about}" for command, about in HELP)
-        return "".join(f"{row}\n" for row in (*rows, "end")).encode("ascii", "replace")
+        return list_reply(rows)
+
+    async def _acknowledge(self, line: Line) -> bytes:
+        """Acknowledges events, if the role allows it and the audit log has it. The reply has the events."""
+        record = {**self._record_of_peer(), "line": line.text}
+        if self.peer.role < Role.FULL:
+            return await self._refuse(line, record)
+        found, log = self._find_events(line), self.desk.events
+        if isinstance(found, bytes):
+            return found
+        forgotten = log.forgotten if line.words[1:] == (ALL.encode(),) else 0
+        if found or forgotten:
+            try:
+                await self._record(None, {**record, "events": [record_of_event(it) for it in found], "forgotten": forgotten}, ACKNOWLEDGED, DONE)
+            except AuditFault:
+                return error_line(NOT_RECORDED)
+            log.acknowledge(found, forgotten, Acknowledgement(int(1000 * time.time()), self.peer.user))
+        return list_reply(event_row(it, self.desk.find_control()) for it in found)
+
+    def _find_events(self, line: Line) -> list[KeptEvent] | bytes:
+        """The events that a line acknowledges; an error as a reply if it names none, or one that does not wait."""
+        words = [it.decode("ascii", "replace") for it in line.words[1:]]
+        if words == [ALL]:
+            return self.desk.events.waiting()
+        if not words or not are_numbers(words):
+            return UNKNOWN
+        found = []
+        for number in dict.fromkeys(map(int, words)):
+            kept = self.desk.events.of_number(number)
+            if kept is None or not kept.is_waiting:
+                return error_line(f"there is no event {number}" if kept is None else f"event {number} does not wait for an acknowledgement")
+            found.append(kept)
+        return found
 
     def _history_rows(self, count: int) -> Iterator[str]:
         """The last commands that were to change the site, oldest first."""
@@ -292,6 +334,11 @@ class Session:
 
 class SlowReader(Exception):
     """A peer does not read its replies."""
+
+
+def list_reply(rows: Iterable[str]) -> bytes:
+    """A reply of rows."""
+    return "".join(f"{row}\n" for row in (*rows, "end")).encode("ascii", "replace")
 
 
 def error_line(reason: str) -> bytes:

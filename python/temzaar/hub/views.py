@@ -8,6 +8,7 @@ from typing import Any
 from temzaar.console import Parties, SlotKey
 from temzaar.hub.config import Config, NamesKeys
 from temzaar.hub.counts import Histogram, HubCounts, Series
+from temzaar.hub.eventlog import EventLog
 from temzaar.hub.lines import AWAY
 from temzaar.hub.link import ConsoleLink
 from temzaar.hub.model import UNSENT_SECONDS, SiteModel
@@ -27,7 +28,7 @@ MISSED_POLLS = 5
 @dataclass
 class Views:
     """Everything that the views are made of. `sessions` has the connections of operators; `records` is None if no file of records is read; `book` has the
-    names."""
+    names, and `events` what happened."""
     config: Config
     link: ConsoleLink
     model: SiteModel
@@ -36,6 +37,7 @@ class Views:
     begun: Moment
     records: RecordReader | None = None
     book: NameBook = field(default_factory=lambda: NameBook(NamesKeys()))
+    events: EventLog = field(default_factory=EventLog)
     version: str = field(default_factory=read_version)
 
     def __post_init__(self) -> None:
@@ -142,7 +144,8 @@ class Views:
 
     def all_series(self) -> list[Series | Histogram]:
         """All metrics, in the order in which they are shown."""
-        return [*self._site_series(), self.model.waits, *self._record_series(), *self._process_series(), *self.counts.all_series()]
+        waiting = gauge("dmr_site_events_unacknowledged", "Events of the site that an operator has to acknowledge yet.", len(self.events.waiting()))
+        return [*self._site_series(), self.model.waits, waiting, *self._record_series(), *self._process_series(), *self.counts.all_series()]
 
     def _site_series(self) -> Iterator[Series]:
         """Gauges of the site. While the controller is away there are only its name and the one that says so."""

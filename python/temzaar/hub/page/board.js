@@ -3,12 +3,14 @@
 import { siteAlarms } from "./alarms.js";
 import { drawCharts, makeCharts } from "./charts.js";
 import { ageText, byId, makeElement, momentText, setText, syncRows } from "./elements.js";
+import { showEvents } from "./events.js";
 import { openHistory, refreshHistory } from "./history.js";
 import { onParty, showCalls, showCarriers, showFigures, showNames, showQueue, showRadios, updateAges } from "./tables.js";
 
 // Milliseconds between two questions, and how long one may take.
 const STATE_MS = 1000;
 const CALLS_MS = 2000;
+const EVENTS_MS = 2000;
 const RADIOS_MS = 10_000;
 const HISTORY_MS = { hour: 10_000, day: 60_000 };
 const HIDDEN_FACTOR = 10;
@@ -23,13 +25,16 @@ const MISSED_POLLS = 5;
 // How many calls are listed at first, and after "Show more".
 const FEW_CALLS = 15;
 const MANY_CALLS = 200;
+// The same of events.
+const FEW_EVENTS = 12;
+const MANY_EVENTS = 500;
 // How many radios, and names that were found, are listed at once: the filter finds the others.
 const MOST_RADIOS = 200;
 const MOST_NAMES = 50;
 const LAST_RADIO = 16_777_215;
 
 // What the hub has answered. `state` came at `came`, in milliseconds of the page's own clock; `isFailing` says that the last question for it had no answer.
-const known = { state: null, came: performance.now(), isFailing: false, pollSeconds: 1, calls: FEW_CALLS, span: "hour" };
+const known = { state: null, came: performance.now(), isFailing: false, pollSeconds: 1, calls: FEW_CALLS, events: FEW_EVENTS, refusals: "yes", span: "hour" };
 
 // The last answers that had a tag, by their paths without the query. The browser is not to keep who calls whom on its disk, so they are kept here.
 const tagged = new Map();
@@ -120,6 +125,12 @@ async function refreshCalls() {
   setText(byId("calls-note"), `The hub has seen ${view.seen} since ${momentText(view.since)}.${earlier}`);
   setText(byId("limits"), limitsText(view));
   await refreshHistory();
+}
+
+async function refreshEvents() {
+  const view = await askPath(`/v1/events.json?last=${known.events}&refusals=${known.refusals}`);
+  showEvents(view);
+  byId("events-more").hidden = known.events > FEW_EVENTS || view.events.length < FEW_EVENTS;
 }
 
 function limitsText(view) {
@@ -232,7 +243,18 @@ function openTyped() {
   }
 }
 
-function listenToControls(askCalls, askRadios, askCharts) {
+/** Has one of some buttons pressed, those of an attribute; `choose` takes the value of the one that is clicked. */
+function listenToSwitch(attribute, choose) {
+  const buttons = document.querySelectorAll(`button[data-${attribute}]`);
+  for (const button of buttons) {
+    button.addEventListener("click", () => {
+      buttons.forEach((it) => it.setAttribute("aria-pressed", String(it === button)));
+      choose(button.dataset[attribute]);
+    });
+  }
+}
+
+function listenToControls(askCalls, askEvents, askRadios, askCharts) {
   byId("radio-filter").addEventListener("input", () => {
     byId("radio-open").disabled = !typedDigits();
     askRadios();
@@ -244,20 +266,27 @@ function listenToControls(askCalls, askRadios, askCharts) {
     askCalls();
     byId("calls-title").focus();
   });
-  for (const button of document.querySelectorAll("button[data-span]")) {
-    button.addEventListener("click", () => {
-      known.span = button.dataset.span;
-      document.querySelectorAll("button[data-span]").forEach((it) => it.setAttribute("aria-pressed", String(it === button)));
-      askCharts();
-    });
-  }
+  byId("events-more").addEventListener("click", () => {
+    known.events = MANY_EVENTS;
+    askEvents();
+    byId("events-title").focus();
+  });
+  listenToSwitch("span", (span) => {
+    known.span = span;
+    askCharts();
+  });
+  listenToSwitch("refusals", (refusals) => {
+    known.refusals = refusals;
+    askEvents();
+  });
 }
 
 onParty(openHistory);
 makeCharts();
 repeatTask(refreshState, () => STATE_MS);
 const askCalls = repeatTask(refreshCalls, () => CALLS_MS);
+const askEvents = repeatTask(refreshEvents, () => EVENTS_MS);
 const askRadios = repeatTask(refreshRadios, () => RADIOS_MS);
 const askCharts = repeatTask(refreshCharts, () => HISTORY_MS[known.span]);
-listenToControls(askCalls, askRadios, askCharts);
+listenToControls(askCalls, askEvents, askRadios, askCharts);
 setInterval(showTimes, TIMES_MS);

@@ -166,7 +166,7 @@ class Chart {
   /** The lines of the means, and of the limit. */
   lines(limits) {
     const means = this.runs.map(([from, to]) => makeSvg("polyline", { class: "mean", points: this.corners(this.values.mean, from, to).join(" ") }));
-    const bounds = limits.length ? this.runs.map(([from, to]) => makeSvg("polyline", { class: "limit", points: this.corners(limits, from, to).join(" ") })) : [];
+    const bounds = knownRuns(limits).map(([from, to]) => makeSvg("polyline", { class: "limit", points: this.corners(limits, from, to).join(" ") }));
     return [...bounds, ...means];
   }
 
@@ -188,7 +188,8 @@ class Chart {
     }
     const last = this.values.mean.findLastIndex(isKnown);
     const mean = known.reduce((sum, value) => sum + value, 0) / known.length;
-    const limited = limit ? ` of ${text(history.figures[limit].max[last])} ${limitTitle}` : "";
+    const most = limit ? history.figures[limit].max[last] : null;
+    const limited = isKnown(most) ? ` of ${text(most)} ${limitTitle}` : "";
     return `now ${text(this.values.max[last])}${limited}; least ${text(Math.min(...this.values.min.filter(isKnown)))}, mean ${text(mean)}, greatest ${text(Math.max(...this.values.max.filter(isKnown)))}`;
   }
 

@@ -22,7 +22,7 @@ _dmr_options() {
 _dmr_words() {
     case $1 in
         dmr_decode) [ "$2" -eq 1 ] && echo carrier site word pdu replay script journal write ;;
-        dmr_console) echo status radios calls lines slots drop end move stay help history names who events acknowledge ;;
+        dmr_console) echo status radios calls lines slots drop end move stay help history names events acknowledge who ;;
     esac
 }
 

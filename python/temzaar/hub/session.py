@@ -51,9 +51,9 @@ HELP = (
     ("help", "this list"),
     ("history N", "the last N commands that change the site, 16 without N"),
     ("names K N ..", "the names of numbers N; K is radio, talkgroup or carrier"),
-    ("who", "the controller, the site's name, and who is connected to the hub"),
     ("events N", "the last N events of the site, 16 without N"),
     ("acknowledge N ..", "acknowledges events N; `acknowledge all`: each that waits (role full)"),
+    ("who", "the controller, the site's name, and who is connected to the hub"),
 )
 
 

@@ -7,7 +7,6 @@ import socket
 import subprocess
 import tempfile
 import threading
-import time
 import unittest
 from collections.abc import Callable, Iterator, Sequence
 from typing import NamedTuple
@@ -110,11 +109,12 @@ CASES = (
 
 
 class Consoles:
-    """A console for one connection after another, which answers with given octets and then waits. `place` is its address and port."""
+    """A console for one connection after another, which answers with given octets and then waits. `place` is its address and port. `connected` is set once there was a connection."""
 
     def __init__(self, answer: bytes) -> None:
         self.answer, self.listener = answer, socket.create_server(("127.0.0.1", 0))
         self.place = f"127.0.0.1:{self.listener.getsockname()[1]}"
+        self.connected = threading.Event()
         self.thread = threading.Thread(target=self.serve, daemon=True)
         self.thread.start()
 
@@ -123,6 +123,7 @@ class Consoles:
         with contextlib.suppress(OSError):
             while True:
                 with self.listener.accept()[0] as stream:
+                    self.connected.set()
                     stream.sendall(self.answer)
                     while stream.recv(4096):
                         pass
@@ -216,7 +217,7 @@ class Ended(unittest.TestCase):
         try:
             with subprocess.Popen(tool_words(*words, consoles.place, *more), stdout=subprocess.PIPE, stderr=subprocess.PIPE, text=True, preexec_fn=take_signals) as process:
                 self.addCleanup(process.kill)
-                time.sleep(2.0)
+                self.assertTrue(consoles.connected.wait(60))
                 yield process
         finally:
             consoles.close()

@@ -126,7 +126,7 @@ class Served(HubCase):
         await operator.ask(b"move 7")
         other = await self.connect()
         names = [line.split()[1].decode().rstrip(":") for line in (await operator.ask(b"help")).splitlines()[:-1]]
-        self.assertEqual(names, ["status", "radios", "calls", "lines", "slots", "drop", "end", "move", "stay", "help", "history", "names", "who", "events", "acknowledge"])
+        self.assertEqual(names, ["status", "radios", "calls", "lines", "slots", "drop", "end", "move", "stay", "help", "history", "names", "events", "acknowledge", "who"])
         who = (await other.ask(b"who")).decode().splitlines()
         self.assertRegex(who[0], rf"^who console 127\.0\.0\.1:{self.fake.port} up since \d{{4}}-\d\d-\d\dT\d\d:\d\d:\d\dZ$")
         self.assertRegex(who[1], r"^who 1 \S.* full since \S+Z lines 3$")

@@ -45,17 +45,22 @@ static TYPES: [(&str, usize, usize); 5] = [
 /// Each row, under the line with its peer and its name.
 #[test]
 fn of_rows(rt: HostRuntime) -> Result<(), Fail> {
-    let mut peer = SitePeer::Operator;
-    let mut name = "";
-    for line in ROWS.lines() {
-        match line.strip_prefix("== ") {
-            Some(title) => {
-                let (of, rest) = title.split_once(": ").ok_or("the peer of rows")?;
-                peer = SitePeer::of_name(of).ok_or("the peer of rows")?;
-                name = rest;
-            }
-            None => try_rounds(&rt, peer, name, line)?,
-        }
+    for part in ROWS.split("== ").skip(1) {
+        try_part(&rt, part)?;
+    }
+    Ok(())
+}
+
+/// Runs the terms of the rows under a line with a peer and a name.
+fn try_part<R: Abort + AllocGlobal + Wait + Threads + Sync>(
+    rt: &R,
+    part: &str,
+) -> Result<(), Fail> {
+    let (title, rows) = part.split_once("\n").ok_or("the line of rows")?;
+    let (peer, name) = title.split_once(": ").ok_or("the peer of rows")?;
+    let peer = SitePeer::of_name(peer).ok_or("the peer of rows")?;
+    for row in rows.lines() {
+        try_rounds(rt, peer, name, row)?;
     }
     Ok(())
 }

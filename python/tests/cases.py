@@ -11,6 +11,8 @@ from temzaar.sitefile import Site
 from tests.support import SITES, TOP
 
 FOLDER = TOP / "cases"
+# The cases of links over ports that fail, and the module of test_trials that has their rows.
+PORTS_FILE, PORTS_MODULE = FOLDER / "links" / "failing_ports.txt", TOP / "crates" / "test_trials" / "src" / "faults" / "rows.rt"
 USUAL_SITE = "two_carriers"
 # The names of the two files in a fault.
 SITE_FILE, SCRIPT_FILE = "the.toml", "the.txt"
@@ -252,3 +254,12 @@ def stored_run() -> tuple[str, str]:
             taken.append(f"%% {word_of(case)} {case.full_name}\n{case.script or ''}")
             printed.append(f"== {case.full_name}\n{case.answer()}")
     return "".join(taken), "".join(printed) + PRINTED_AFTER
+
+
+def ports_module() -> str:
+    """The source of the module that has the rows of the cases of links over ports that fail."""
+    _, begin, rest = PORTS_FILE.read_text(encoding="utf-8").partition("== ")
+    lines = [line for line in (begin + rest).splitlines() if line]
+    rows = "".join(f"{line}\n" for line in lines)
+    return ("//! The rows of `cases/links/failing_ports.txt`. `ci/stored-cases` writes this file.\n\n"
+            f'/// The rows, after a line with the peer and a name.\npub static ROWS: &str = "\\\n{rows}";\n')

@@ -1,21 +1,16 @@
-//! Terms whose ports fail at any call. Each compares the events of the peer's actor, the octets that its port took, and
-//! how its last connection ended. It also checks that the link has nothing pending. The expected octets follow from the
-//! formats; the burst is one of the worked cases.
-//!
-//! A row is `A to B: STEPS => EVENTS; OCTETS; ENDED`, and is one term for each number N from A to B. STEPS are the
-//! answers of the peer's port (`steps`). EVENTS are letters (`stage`), or `-`. OCTETS has a count for each connection
-//! that receives octets: that many first octets of the peer's answer. After the term, each further serve of the link
-//! ends as its last connection did, and touches neither port nor desk.
+//! Terms whose ports fail at any call: the rows of `cases/links/failing_ports.txt`, as `cases/README.md` reads them. Each
+//! compares the events of the peer's actor, the octets that its port took, and how its last connection ended. It also
+//! checks that the link has nothing pending. After the term, each further serve of the link ends as its last connection
+//! did, and touches neither port nor desk.
 
-mod carriers;
 mod closed;
-mod numbered;
-mod operators;
 mod peers;
+mod rows;
 mod stage;
 mod steps;
 
 use self::peers::SitePeer;
+use self::rows::ROWS;
 use self::stage::{FaultOutcome, FaultStage};
 use self::steps::add_steps;
 use crate::kept::known;
@@ -38,10 +33,36 @@ struct ExpectedTerm<'a> {
     ended: Ended,
 }
 
+/// The types of frames, in hexadecimal digits, each with its length in version 1 of the link and in version 2.
+static TYPES: [(&str, usize, usize); 5] = [
+    ("01", 4, 4),
+    ("02", 26, 27),
+    ("03", 0, 0),
+    ("04", 1, 1),
+    ("05", 0, 0),
+];
+
+/// Each row, under the line with its peer and its name.
 #[test]
-fn of_carriers(rt: HostRuntime) -> Result<(), Fail> {
-    try_all(&rt, SitePeer::Carrier(Version::V1), &carriers::ROWS)?;
-    try_all(&rt, SitePeer::Carrier(Version::V2), &numbered::ROWS)
+fn of_rows(rt: HostRuntime) -> Result<(), Fail> {
+    for part in ROWS.split("== ").skip(1) {
+        try_part(&rt, part)?;
+    }
+    Ok(())
+}
+
+/// Runs the terms of the rows under a line with a peer and a name.
+fn try_part<R: Abort + AllocGlobal + Wait + Threads + Sync>(
+    rt: &R,
+    part: &str,
+) -> Result<(), Fail> {
+    let (title, rows) = part.split_once("\n").ok_or("the line of rows")?;
+    let (peer, name) = title.split_once(": ").ok_or("the peer of rows")?;
+    let peer = SitePeer::of_name(peer).ok_or("the peer of rows")?;
+    for row in rows.lines() {
+        try_rounds(rt, peer, name, row)?;
+    }
+    Ok(())
 }
 
 /// Each type of frame with each wrong length, before a HELLO and after one. Each length has two connections, and each
@@ -49,34 +70,26 @@ fn of_carriers(rt: HostRuntime) -> Result<(), Fail> {
 /// further.
 #[test]
 fn lengths_of_frames(rt: HostRuntime) -> Result<(), Fail> {
-    for (kind, first, later) in &carriers::TYPES {
+    for (kind, first, later) in &TYPES {
         try_lengths(&rt, Version::V1, kind, *first, *first)?;
         try_lengths(&rt, Version::V2, kind, *first, *later)?;
     }
     Ok(())
 }
 
-#[test]
-fn of_operators(rt: HostRuntime) -> Result<(), Fail> {
-    try_all(&rt, SitePeer::Operator, &operators::ROWS)
-}
-
-/// Runs the terms of each row.
-fn try_all<R: Abort + AllocGlobal + Wait + Threads + Sync>(
+/// Runs the terms of a row, one in each of its rounds.
+fn try_rounds<R: Abort + AllocGlobal + Wait + Threads + Sync>(
     rt: &R,
     peer: SitePeer,
-    tables: &[(&str, &str)],
+    name: &str,
+    row: &str,
 ) -> Result<(), Fail> {
-    for (name, rows) in tables {
-        for row in rows.lines() {
-            let (rounds, row) = row.split_once(": ").ok_or("the rounds of a row")?;
-            let (first, last) = rounds.split_once(" to ").ok_or("the rounds of a row")?;
-            let first = first.parse::<usize>().ok().ok_or("the first round")?;
-            let last = last.parse::<usize>().ok().ok_or("the last round")?;
-            for round in first..=last {
-                try_row(rt, peer, name, row, round)?;
-            }
-        }
+    let (rounds, row) = row.split_once(": ").ok_or("the rounds of a row")?;
+    let (first, last) = rounds.split_once(" to ").ok_or("the rounds of a row")?;
+    let first = first.parse::<usize>().ok().ok_or("the first round")?;
+    let last = last.parse::<usize>().ok().ok_or("the last round")?;
+    for round in first..=last {
+        try_row(rt, peer, name, row, round)?;
     }
     Ok(())
 }

@@ -47,6 +47,16 @@ const SAID: &[u8] = b"status\nstay\n";
 const REPLIES: &[u8] = b"status carriers 0 radios 0 asks 0 lines 0 calls 0 fill aloha\nok\n";
 
 impl SitePeer {
+    /// Returns the peer with this name.
+    pub fn of_name(name: &str) -> Option<SitePeer> {
+        match name {
+            "carrier in version 1" => Some(SitePeer::Carrier(Version::V1)),
+            "carrier in version 2" => Some(SitePeer::Carrier(Version::V2)),
+            "operator" => Some(SitePeer::Operator),
+            _ => None,
+        }
+    }
+
     /// Returns the peer's input: 36 octets, 37 in version 2 of the link, or 12 of an operator.
     pub fn input(self) -> &'static [u8] {
         match self {

@@ -1,12 +1,4 @@
-//! The steps of a port: how it answers its calls, in words with `, ` between the steps.
-//!
-//! - `connect`: a connection arrives.
-//! - `first N`: a read returns the first N octets of the peer's input. `behind N`: the octets after them.
-//! - `hex` and octets in hexadecimal digits: a read returns them. `NN` is the octet of the round's number.
-//! - `read` and `write`: how a read or write ends: `end`, `interrupted`, `block` or `fault`. `write N` takes N octets.
-//! - `again` and `silent`: the answer of a wait.
-//!
-//! `N x` before a step repeats it N times.
+//! The steps of a port: how it answers its calls, in the words of `cases/README.md`.
 
 use super::peers::number;
 use crate::kept::push;

@@ -1,4 +1,5 @@
 """The promises of docs/GUARANTEES.md, the clauses that they name, and the definitions that documents show."""
+import collections
 import functools
 import itertools
 import pathlib
@@ -7,10 +8,17 @@ from collections.abc import Iterator
 from typing import NamedTuple
 
 from documents.blocks import TOP
+from documents.names import table_of
 
 PROMISES = TOP / "docs/GUARANTEES.md"
 # An item that states a promise: its name, and its words up to the next item, heading or paragraph.
 PROMISE = re.compile(r"^- \*\*(.+?)\.\*\* (.*?)(?=^\S|^$|\Z)", re.M | re.S)
+# A table of promises, with a column of crates or without, and its rows.
+TABLE = re.compile(r"^\| (crate \| )?promise \| by \|.*\n\|[-|]+\n((?:\|.*\n)+)", re.M)
+# The headers of the table of those that it begins with, and of how many of these have each status.
+FIRST, STATUSES = "no\\. \\| promise \\| by", "status \\| promises"
+# How many promises it begins with, and what one of these says that has no clause.
+FIRST_PROMISES, NO_CLAUSE = 15, "no clause"
 # A fenced block that is a definition: its name, its file and its text.
 DEFINITION = re.compile(r"^<!-- check: definition ([\w-]+) of (crates/\S+) -->\n```\w*\n(.*?)^```$", re.M | re.S)
 # What begins at a line of code or of definitions, with its name; and what ends a function's contract, and a clause.
@@ -54,9 +62,16 @@ class Item(NamedTuple):
         return next(filter(None, ([n for n in own if re.match(it, lines[n])] for it in patterns)), [])
 
     def comment(self) -> list[str]:
-        """The doc comment above this item of code, without attributes."""
-        above = itertools.takewhile(lambda it: re.match(r" *(?:///|#\[)", it), reversed(lines_at(self.path)[:self.line]))
-        return [it for it in reversed([*above]) if "///" in it]
+        """The doc comment above this item of code, without attributes, or the comment above this definition."""
+        above = itertools.takewhile(lambda it: re.match(r" *(?:///|#\[|--)", it), reversed(lines_at(self.path)[:self.line]))
+        return [it for it in reversed([*above]) if not it.lstrip().startswith("#[")]
+
+    def comment_of_part(self, line: int) -> list[str]:
+        """The comment right above a clause of the function, or the one above a field of the definition and those that follow it."""
+        lines, number = lines_at(self.path), line
+        while self.path.suffix == ".antt" and number > self.line + 1 and not lines[number - 1].lstrip().startswith("--"):
+            number -= 1
+        return [*reversed([*itertools.takewhile(lambda it: re.match(r" *(?:--|//)", it), reversed(lines[self.line + 1:number]))])]
 
     def text_from(self, line: int) -> str:
         """What begins at a line: this item, a function without its body, or a part of it."""
@@ -130,36 +145,71 @@ class Promise(NamedTuple):
     carried: list[Named]
 
 
-def read_promises(text: str) -> Iterator[Promise]:
-    """The promises of a text. A span of code after "By" has one or more names. One that begins with a point is a part of the item before it, and
+def names_in(text: str, crate: str = "") -> Iterator[Named]:
+    """The names in a text, of a crate if one is given. A span of code has one or more. One that begins with a point is a part of the item before it, and
     one with two colons a method of the same type."""
+    owner = ""
+    for it in " ".join(re.findall(r"`([^`]+)`", text)).split():
+        full = owner + it if it.startswith(".") else owner.rpartition("::")[0] + it if it.startswith("::") else crate + it
+        owner = full.partition(".")[0]
+        yield find(full)
+
+
+def read_promises(text: str) -> Iterator[Promise]:
+    """The promises of a text: items, with the names after "By", and then rows of tables. If a table has crates, the names of a row are those of its crates;
+    a row without a crate is of those of the row above it."""
     for name, words in PROMISE.findall(text):
-        owner, carried = "", []
-        for it in " ".join(re.findall(r"`([^`]+)`", words.partition("*By*")[2].partition("*Not said*")[0])).split():
-            full = owner + it if it.startswith(".") else owner.rpartition("::")[0] + it if it.startswith("::") else it
-            owner = full.partition(".")[0]
-            carried.append(find(full))
-        yield Promise(name, re.sub(r"\s+", " ", words).strip(), carried)
+        words = re.sub(r"\s+", " ", words).strip()
+        yield Promise(name, words, [*names_in(words.partition("*By*")[2].partition("*Not said*")[0])])
+    for has_crates, rows in TABLE.findall(text):
+        crates: list[str] = []
+        for row in rows.splitlines():
+            *owners, name, by, alone, unsaid = (it.strip() for it in row.strip("|").split("|"))
+            crates = re.findall(r"`(\w+)`", "".join(owners)) or crates
+            words = [f"({', '.join(f'`{it}`' for it in crates)})" if crates else "", f"{alone}." if alone else "", f"*By* {by}.", f"*Not said*: {unsaid}." if unsaid else ""]
+            prefixes = [it + "::" for it in crates] if has_crates else [""]
+            yield Promise(name, " ".join(filter(None, words)), [it for prefix in prefixes for it in names_in(by, prefix)])
+
+
+def named_faults(promise: str, carried: list[Named]) -> Iterator[str]:
+    """The names that are not those of one clause, one definition or the like."""
+    for name, places in (it for it in carried if len(it.places) != 1):
+        where = ", ".join(f"{item.path.relative_to(TOP)}:{line + 1}" for item, line in places)
+        yield f"{promise}: {name} is ambiguous: {where}; write its type, crate or file before it" if places else f"{promise}: there is no {name}"
 
 
 def promise_faults(text: str) -> Iterator[str]:
-    """The names in promises that are not those of one clause, one definition or the like; promises without any, and two of one name."""
+    """What is wrong with the names in promises; promises without any, and two of one name."""
     said = set()
     for promise in read_promises(text):
         if promise.name in said:
             yield f"two promises are called {promise.name}"
         if not promise.carried:
             yield f"{promise.name}: it names no clause"
-        for name, places in (it for it in promise.carried if len(it.places) != 1):
-            where = ", ".join(f"{item.path.relative_to(TOP)}:{line + 1}" for item, line in places)
-            yield f"{promise.name}: {name} is ambiguous: {where}; write its type, crate or file before it" if places else f"{promise.name}: there is no {name}"
+        yield from named_faults(promise.name, promise.carried)
         said.add(promise.name)
+
+
+def first_faults(text: str) -> Iterator[str]:
+    """What is wrong with the promises that the page begins with: their number, the names that they have, and the counts of their statuses."""
+    rows, said = table_of(text, FIRST), {status: count for status, count, *_ in table_of(text, STATUSES)}
+    if [it[0] for it in rows] != [str(number + 1) for number in range(FIRST_PROMISES)]:
+        yield f"it does not begin with promises 1 to {FIRST_PROMISES}"
+    for number, _, by, definition, *_ in rows:
+        carried = [*names_in(by)]
+        if not carried and NO_CLAUSE not in by:
+            yield f"promise {number} names no clause, and does not say so"
+        yield from named_faults(f"promise {number}", [*carried, *names_in(definition)])
+    counts = collections.Counter(row[4] for row in rows)
+    for status in sorted({*counts, *said}):
+        if said.get(status) != str(counts[status]):
+            yield f'{counts[status]} of its first promises have the status "{status}", and the table of statuses says {said.get(status, "nothing")}'
 
 
 def clause_faults(document: pathlib.Path) -> Iterator[str]:
     """What a document says of clauses, and shows of definitions, and is not so."""
     text, name = document.read_text(encoding="utf-8"), document.relative_to(TOP)
-    for fault in promise_faults(text) if document == PROMISES else ():
+    for fault in (*promise_faults(text), *first_faults(text)) if document == PROMISES else ():
         yield f"{name}: {fault}"
     for said, path, shown in DEFINITION.findall(text):
         if shown not in [item.text_from(item.line) + "\n" for it, item in items_at(TOP / path) if it == said]:

@@ -161,7 +161,8 @@ def record_of(made: Made, promises: Sequence[Promise]) -> str:
         *table_of(made.steps, made.outcomes), *longer_of(made),
         "", "## What was proved", "",
         "The gate proved each crate: each function meets its contract, for every input. These are the contracts of the functions that carry the promises. `TRUSTED.txt`"
-        " has the definitions that they depend on, and `CLAUSES.txt` each promise of `docs/GUARANTEES.md` with the texts of its clauses.", "",
+        " has the definitions that they depend on, and `CLAUSES.txt` each promise of `docs/GUARANTEES.md` with its clauses and their comments. That page begins with the"
+        " promises that are asked for first, says which of them are proved, and which rest on reading or on tests.", "",
         *theorems_of(promises),
     ]
     return "\n".join(lines).rstrip("\n") + "\n"

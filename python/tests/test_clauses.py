@@ -83,6 +83,16 @@ module _ (n : ℕ) where
   pub record Inner : Type 0 where
     pub ok : n ≡ 1
 """
+# what a page of promises begins with: how many of the first have each status, and the first ones
+FIRST = """\
+| status | promises | what it means |
+|---|---|---|
+| proved | 14 | by a clause |
+| by tests | 1 | by none |
+
+| no. | promise | by | main definition | status | what would still pass |
+|---|---|---|---|---|---|
+""" + "".join(f"| {number} | It runs | `First::run.ok` | `Pair` | proved | nothing |\n" for number in range(1, 15)) + "| 15 | It ends | no clause | none | by tests | a loop |\n"
 
 
 class Clauses(unittest.TestCase):
@@ -110,7 +120,7 @@ class Clauses(unittest.TestCase):
 
     def faults(self, text: str) -> list[str]:
         """The faults of a page of promises."""
-        self.page.write_text(text, encoding="utf-8")
+        self.page.write_text(text if FIRST.splitlines()[0] in text else f"{text}\n{FIRST}", encoding="utf-8")
         return list(clauses.clause_faults(self.page))
 
     def test_functions(self) -> None:
@@ -151,6 +161,52 @@ class Clauses(unittest.TestCase):
             with self.subTest(words):
                 self.assertEqual(self.faults(f"- **One.** {words}\n"), [f"docs/GUARANTEES.md: {fault}"])
 
+    def test_rows(self) -> None:
+        """A row of the table by crate is a promise; its names are those of its crates, or of the crates of the row above it."""
+        table = "| crate | promise | by | said here alone | not said |\n|---|---|---|---|---|\n"
+        rows = "| `one`, `two` | Laws | `law.ok` | | |\n| `one` | One | `law ::law.ok` | It runs | more |\n| | Two | `First::run.ok .fit` | | |\n"
+        self.assertEqual(self.faults(f"- **Item.** `x` *By*\n  `one::law`. *Not\n  said*: `y`.\n\n{table}{rows}"), [])
+        self.assertEqual([(it.name, it.words, [name.name for name in it.carried]) for it in clauses.read_promises(f"{table}{rows}")],
+                         [("Laws", "(`one`, `two`) *By* `law.ok`.", ["one::law.ok", "two::law.ok"]),
+                          ("One", "(`one`) It runs. *By* `law ::law.ok`. *Not said*: more.", ["one::law", "one::law.ok"]),
+                          ("Two", "(`one`) *By* `First::run.ok .fit`.", ["one::First::run.ok", "one::First::run.fit"])])
+        # a table without crates has names as items have them; a page may have several tables
+        plain = "| promise | by | said here alone | not said |\n|---|---|---|---|\n| Three | `one::law` | | |\n"
+        self.assertEqual([(it.name, it.words, [name.name for name in it.carried]) for it in clauses.read_promises(f"{table}{rows}\n{plain}\n{plain}")][3:],
+                         [("Three", "*By* `one::law`.", ["one::law"])] * 2)
+        self.assertEqual(self.faults(plain.replace("one::law", "law.ok")),
+                         ["docs/GUARANTEES.md: Three: law.ok is ambiguous: crates/one/src/a.rt:37, crates/two/src/b.rt:2; write its type, crate or file before it"])
+        for row, fault in (("| `two` | One | `First::run` | | |", "One: there is no two::First::run"), ("| `one` | One | the code | | |", "One: it names no clause"),
+                           ("| `one` | One | `law` | | |\n| | One | `law` | | |", "two promises are called One")):
+            with self.subTest(row):
+                self.assertEqual(self.faults(f"{table}{row}\n"), [f"docs/GUARANTEES.md: {fault}"])
+
+    def test_first_promises(self) -> None:
+        """The promises that the page begins with: their number, their names, and how many have each status."""
+        self.assertEqual(self.faults(FIRST), [])
+        for before, after, *wanted in (
+                ("| proved | 14 |", "| proved | 13 |", '14 of its first promises have the status "proved", and the table of statuses says 13'),
+                ("| by tests | 1 |", "| by reading | 1 |", '0 of its first promises have the status "by reading", and the table of statuses says 1',
+                 '1 of its first promises have the status "by tests", and the table of statuses says nothing'),
+                ("| 9 | It runs", "| 10 | It runs", "it does not begin with promises 1 to 15"),
+                ("| 9 | It runs | `First::run.ok` |", "| 9 | It runs | `First::run.gone` |", "promise 9: there is no First::run.gone"),
+                ("| 9 | It runs | `First::run.ok` | `Pair` |", "| 9 | It runs | `First::run.ok` | `law` |",
+                 "promise 9: law is ambiguous: crates/one/src/a.rt:36, crates/two/src/b.rt:1; write its type, crate or file before it"),
+                ("| no clause |", "| the tests |", "promise 15 names no clause, and does not say so")):
+            with self.subTest(after):
+                self.assertIn(before, FIRST)
+                self.assertEqual(self.faults(FIRST.replace(before, after)), [f"docs/GUARANTEES.md: {it}" for it in wanted])
+        self.page.write_text("# Page\n", encoding="utf-8")
+        self.assertEqual(list(clauses.clause_faults(self.page)), ["docs/GUARANTEES.md: it does not begin with promises 1 to 15"])
+
+    def test_comments(self) -> None:
+        """The comment of a function, also above an attribute, that of a definition, and those of their parts: of a field, the last above it."""
+        for name, comment, of_part in (("First::run.ok", "    /// Runs.", ""), ("one::law", "/// A law.", ""), ("two::law.ok", "", ""), ("Pair.ok", "-- a pair", "  -- the first"),
+                                       ("Pair.other", "-- a pair", "  -- the first"), ("Inner.ok", "", ""), ("IsInner", "  -- inner", "")):
+            with self.subTest(name):
+                [(item, line)] = clauses.find(name).places
+                self.assertEqual(("\n".join(item.comment()), "\n".join([] if line == item.line else item.comment_of_part(line))), (comment, of_part))
+
     def test_other_documents_promise_nothing(self) -> None:
         other = self.top / "docs/OTHER.md"
         other.write_text("- **One.** It runs.\n", encoding="utf-8")
@@ -163,10 +219,12 @@ class Clauses(unittest.TestCase):
             self.assertEqual(len(self.faults(wrong)), 1)
 
     def test_command(self) -> None:
-        self.page.write_text("- **It runs.** Always. *By* `First::run.fit`.\n- **A law.** It holds. *By* `two::law`.\n", encoding="utf-8")
+        self.page.write_text("- **It runs.** Always. *By* `First::run.fit .ok`.\n- **A law.** It holds. *By* `two::law`.\n", encoding="utf-8")
         law = "\n## A law\n\nIt holds. *By* `two::law`.\n\ntwo::law, crates/two/src/b.rt:1\npub fn law()\n    ensures ok { 2 ≡ 2 }\n"
-        runs = "\n## It runs\n\nAlways. *By* `First::run.fit`.\n\nFirst::run.fit, crates/one/src/a.rt:10\n        requires fit { 0 < 1 }\n"
-        for words, printed in (("", runs + law), ("a law", law), ("two", law), ("Pair.other", "\nPair.other, crates/one/specs/Pairs.antt:6\n  pub other : n ≡ 1\n"), ("nothing", "")):
+        runs = ("\n## It runs\n\nAlways. *By* `First::run.fit .ok`.\n\nFirst::run.fit, crates/one/src/a.rt:10\n    /// Runs.\n        requires fit { 0 < 1 }\n"
+                "\nFirst::run.ok, crates/one/src/a.rt:11\n        ensures ok { IfOk result\n            (λ r. r ≡ 1) }\n")
+        other = "\nPair.other, crates/one/specs/Pairs.antt:6\n-- a pair\n  -- the first\n  pub other : n ≡ 1\n"
+        for words, printed in (("", runs + law), ("a law", law), ("two", law), ("Pair.other", other), ("nothing", "")):
             with self.subTest(words), contextlib.redirect_stdout(io.StringIO()) as out, contextlib.redirect_stderr(io.StringIO()) as err:
                 self.assertEqual(command.main(words), 0 if printed else 1)
                 self.assertEqual((out.getvalue(), err.getvalue()), (printed, "" if printed else "ci/clauses: no promise and no code has the name nothing\n"))

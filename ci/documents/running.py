@@ -10,7 +10,7 @@ import sys
 import time
 from collections.abc import Iterator
 
-from documents.blocks import DOCUMENTS, TOP, Block, Command, commands_of
+from documents.blocks import TOP, Block, Command, commands_of
 from temzaar.frames import POLL, FrameType, hello
 from temzaar.process import Controller, connect
 from temzaar.script import read_script
@@ -19,8 +19,6 @@ from temzaar.sitefile import Site
 # The programs and the tools of operators.
 PROGRAMS = ("dmr_trunk", "dmr_decode")
 TOOLS = ("siteview", "timeline", "carriers", "conform", "check", "hub", "console")
-# A fenced block that is a file: its name and its text.
-SAVED = re.compile(r"^<!-- check: saved as ([\w.-]+) -->\n```\w*\n(.*?)^```$", re.M | re.S)
 # The programs nc and xxd, for a machine that has none.
 STAND_INS = {
     "nc": """import socket, sys
@@ -71,7 +69,7 @@ class Runner:
 
     def __init__(self, folder: pathlib.Path, programs: pathlib.Path) -> None:
         self.folder, self.programs = folder, programs
-        for name in ("tools", "examples", "sites", "python"):
+        for name in ("tools", "examples", "sites", "python", "station"):
             (folder / name).symlink_to(TOP / name)
         (folder / "build").symlink_to(programs)
         (folder / "bin").mkdir()
@@ -88,9 +86,6 @@ class Runner:
         self.environment = {**os.environ, "PATH": f"{folder / 'bin'}:{os.environ['PATH']}", "PYTHONDONTWRITEBYTECODE": "1"}
         self.write_site()
         shutil.copy(TOP / "examples/scripts/lost_carrier.txt", folder / "incident.txt")
-        for document in DOCUMENTS:
-            for name, text in SAVED.findall(document.read_text(encoding="utf-8")):
-                (folder / name).write_text(text, encoding="utf-8")
 
     def write_site(self, change: str = "") -> Site:
         """Writes site.toml, with another value for a key: of the site, or of its first carrier."""

@@ -177,7 +177,7 @@ install: build/dmr_trunk build/dmr_decode ## the programs, tools, headers for ba
 	python3 ci/write-manual --prefix $(PREFIX) $(DESTDIR)$(MAN)
 	install -d $(DESTDIR)$(PREFIX)/include/dmr_trunk $(DESTDIR)$(DOC)/examples/station
 	install -m 644 station/*.h $(DESTDIR)$(PREFIX)/include/dmr_trunk
-	install -m 644 station/README.md station/*.c $(DESTDIR)$(DOC)/examples/station
+	install -m 644 station/README.md station/*.c station/*.py $(DESTDIR)$(DOC)/examples/station
 	install -D -m 644 deploy/wireshark/dmr_link.lua $(DESTDIR)$(WIRESHARK_PLUGINS)/dmr_link.lua
 	ln -sf ../man8/dmr_trunk.8 $(DESTDIR)$(MAN)/man1/dmr_trunk.1
 	install -D -m 644 deploy/completion/dmr.bash $(DESTDIR)$(COMPLETIONS)/dmr_trunk

@@ -10,8 +10,8 @@ import sys
 import time
 from collections.abc import Iterator
 
-from documents.blocks import DOCUMENTS, TOP, Block, Command, commands_of
-from temzaar.frames import POLL, FrameType, hello
+from documents.blocks import TOP, Block, Command, commands_of
+from temzaar.frames import POLL, FrameType
 from temzaar.process import Controller, connect
 from temzaar.script import read_script
 from temzaar.sitefile import Site
@@ -19,8 +19,6 @@ from temzaar.sitefile import Site
 # The programs and the tools of operators.
 PROGRAMS = ("dmr_trunk", "dmr_decode")
 TOOLS = ("siteview", "timeline", "carriers", "conform", "check", "hub", "console")
-# A fenced block that is a file: its name and its text.
-SAVED = re.compile(r"^<!-- check: saved as ([\w.-]+) -->\n```\w*\n(.*?)^```$", re.M | re.S)
 # The programs nc and xxd, for a machine that has none.
 STAND_INS = {
     "nc": """import socket, sys
@@ -71,7 +69,7 @@ class Runner:
 
     def __init__(self, folder: pathlib.Path, programs: pathlib.Path) -> None:
         self.folder, self.programs = folder, programs
-        for name in ("tools", "examples", "sites", "python"):
+        for name in ("tools", "examples", "sites", "python", "station"):
             (folder / name).symlink_to(TOP / name)
         (folder / "build").symlink_to(programs)
         (folder / "bin").mkdir()
@@ -88,9 +86,6 @@ class Runner:
         self.environment = {**os.environ, "PATH": f"{folder / 'bin'}:{os.environ['PATH']}", "PYTHONDONTWRITEBYTECODE": "1"}
         self.write_site()
         shutil.copy(TOP / "examples/scripts/lost_carrier.txt", folder / "incident.txt")
-        for document in DOCUMENTS:
-            for name, text in SAVED.findall(document.read_text(encoding="utf-8")):
-                (folder / name).write_text(text, encoding="utf-8")
 
     def write_site(self, change: str = "") -> Site:
         """Writes site.toml, with another value for a key: of the site, or of its first carrier."""
@@ -101,9 +96,9 @@ class Runner:
         (self.folder / "site.toml").write_text(site.text(), encoding="utf-8")
         return site
 
-    def run(self, words: str, given: str = "") -> tuple[int, list[str]]:
-        """Runs a command with an input. Its status, and the lines that it printed."""
-        done = subprocess.run(["bash", "-c", words], cwd=self.folder, env=self.environment, input=given, stdout=subprocess.PIPE, stderr=subprocess.STDOUT, text=True, timeout=60, check=False)
+    def run(self, words: str) -> tuple[int, list[str]]:
+        """Runs a command with an empty input. Its status, and the lines that it printed."""
+        done = subprocess.run(["bash", "-c", words], cwd=self.folder, env=self.environment, input="", stdout=subprocess.PIPE, stderr=subprocess.STDOUT, text=True, timeout=60, check=False)
         return done.returncode, done.stdout.splitlines()
 
     def run_until_shown(self, words: str, count: int) -> list[str]:
@@ -121,19 +116,19 @@ class Runner:
 
     def faults(self, block: Block) -> Iterator[str]:
         """The lines that a block shows and its commands do not print."""
-        marker, served = block.marker, re.fullmatch(r"served(?:, (\w+ = \d+))?(?: and fed (\S+))?( and typed)?", block.marker)
+        marker, served = block.marker, re.fullmatch(r"served(?:, (\w+ = \d+))?(?: and fed (\S+))?", block.marker)
         site = self.write_site(served[1] or "" if served else marker.removeprefix("with ") if marker.startswith("with ") else "")
         with contextlib.ExitStack() as stack:
             if served:
                 controller = stack.enter_context(Controller(str(self.programs / "dmr_trunk"), site))
                 controller.wait_until_served()
-                for stream in self.play(site, served[2], bool(served[3])):
+                for stream in self.play(site, served[2]):
                     stack.enter_context(stream)
             if marker == "in one shell":
                 yield from self.faults_in_one_shell(block)
                 return
             for command in commands_of(block):
-                yield from self.faults_of_command(block, command, bool(served and served[3]))
+                yield from self.faults_of_command(block, command)
         self.write_site()
 
     def faults_in_one_shell(self, block: Block) -> Iterator[str]:
@@ -148,14 +143,10 @@ class Runner:
                 yield f"{block.place()}: $ {command.words}\n  printed\n" + "".join(f"    {it}\n" for it in printed[:ends + 1][:20])
             printed = printed[ends + 1:]
 
-    def play(self, site: Site, script: str | None, carrier_up: bool) -> list[socket.socket]:
-        """The connections of a script that is played up to its first tick; or that of carrier 0."""
+    def play(self, site: Site, script: str | None) -> list[socket.socket]:
+        """The connections of a script that is played up to its first tick."""
         inputs = read_script((TOP / "examples/scripts" / script).read_text(encoding="utf-8")) if script else []
         streams: dict[int, socket.socket] = {}
-        if carrier_up:
-            streams[0] = connect(site.address, site.row(0)["port"])
-            streams[0].sendall(hello(0, site.row(0)["lpcn"]))
-            streams[0].recv(100)
         for it in inputs:
             if it.kind == "tick":
                 break
@@ -168,15 +159,13 @@ class Runner:
         time.sleep(0.2)
         return list(streams.values())
 
-    def faults_of_command(self, block: Block, command: Command, typed: bool) -> Iterator[str]:
+    def faults_of_command(self, block: Block, command: Command) -> Iterator[str]:
         """The lines that are shown for a command and that it does not print."""
-        shown, given, status = trimmed(command.shown), "", 0
-        if typed:
-            given, shown = shown[0] + "\n", shown[1:]
+        shown, status = trimmed(command.shown), 0
         if block.marker == "started":
             printed = self.run_until_shown(command.words, len(shown))
         else:
-            status, printed = self.run(command.words, given)
+            status, printed = self.run(command.words)
         if block.marker == "ends well":
             if status:
                 yield f"{block.place()}: $ {command.words}\n  ended with status {status}: {' '.join(printed)[:200]}"

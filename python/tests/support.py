@@ -88,6 +88,15 @@ def table_rows(text: str, heading: str) -> list[list[str]]:
     return rows
 
 
+def queries_of(text: str) -> list[str]:
+    """The queries of docs/RECORDS.md, in the order of their numbers, each with its comment: they are in one block, with an empty line between two."""
+    block = re.search(r"^```sql\n(.*?)^```$", text, re.M | re.S)
+    assert block
+    queries = block[1].split("\n\n")
+    assert [it.partition(". ")[0] for it in queries] == [f"-- {number}" for number in range(1, len(queries) + 1)]
+    return queries
+
+
 def metric_rows(text: str) -> list[tuple[str, str, set[str]]]:
     """The metrics of docs/HUB.md: the name, the type and the labels of each. A row may have several, each with its labels in brackets."""
     found = []

@@ -145,7 +145,7 @@ class ScrapeConfigs(unittest.TestCase):
 
     def test_promtool_accepts_them(self) -> None:
         found = [re.sub(r"^    ", "", it, flags=re.M) for it in re.findall(r"^    scrape_configs:\n(?:      .*\n)+", read_document("HUB.md"), re.M)]
-        self.assertEqual(["site: " in it for it in found], [False, True])
+        self.assertEqual(["labels: {site: " in it for it in found], [True])
         if not shutil.which("promtool"):
             self.skipTest("there is no promtool: the package prometheus has it")
         for text in found:

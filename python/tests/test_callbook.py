@@ -21,7 +21,7 @@ from temzaar.recordgaps import LOST, RESTARTED, Gap, find_gaps
 from temzaar.records import CAUSES, VERSION, opened_records
 from temzaar.recordsheet import lines_below
 from tests.made_records import CALLS, EVENTS, NOON, REGISTRATIONS, TERMS, TABLES, add_term, locked, make_records, zone
-from tests.support import call_tool, read_document, table_rows
+from tests.support import call_tool, queries_of, read_document, table_rows
 
 # All calls, at noon in a zone two hours east of UTC, which is 14:00.
 TABLE = """\
@@ -169,7 +169,7 @@ class Gaps(RecordsCase):
 
     def test_the_documents_query(self) -> None:
         """The query of RECORDS.md finds the same, and the one after it the calls of a base station that lost its power."""
-        gaps, calls = re.findall(r"^```sql\n(.*?)^```$", read_document("RECORDS.md"), re.M | re.S)[10:12]
+        gaps, calls = queries_of(read_document("RECORDS.md"))[10:12]
         with contextlib.closing(sqlite3.connect(self.path)) as conn, conn:
             self.assertEqual(conn.execute(gaps).fetchall(), [("2026-11-27 12:00:30", "2026-11-27 12:01:40", 70.0)])
             self.assertEqual(conn.execute(calls).fetchall(), [])

@@ -163,11 +163,10 @@ class OtherClients(unittest.TestCase):
 
     def test_the_client_of_the_document(self) -> None:
         """It leaves after four POLLs. What it claims is right, in both versions."""
-        text = re.search(r"^<!-- check: saved as link_client.py -->\n```python\n(.*?)^```$", LINK, re.M | re.S)
-        assert text
+        text = (TOP / "station" / "link_client.py").read_text(encoding="utf-8")
         path = os.path.join(self.folder, "link_client.py")
         with open(path, "w", encoding="utf-8") as it:
-            it.write(text[1].replace("7101", str(self.port)))
+            it.write(text.replace("7101", str(self.port)))
         for version, passed in ((2, {"hello", "frames", "bits", "pieces", "numbers", "at-once"}), (1, {"hello", "frames", "bits", "pieces", "at-once"})):
             said = run_json(conform_words(self.folder, (), "--json", "--link-version", str(version), "--", sys.executable, path, "{version}"))
             self.assertEqual({row for row, (verdict, _) in said.items() if verdict == "passed"}, passed, said)

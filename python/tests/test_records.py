@@ -9,7 +9,7 @@ import unittest
 from collections.abc import Iterator
 
 from tests.made_records import NOON, insert, make_records
-from tests.support import TOP, program, read_document, table_rows
+from tests.support import TOP, program, queries_of, read_document, table_rows
 from tests.worked_session import CALLS, EVENTS, REGISTRATIONS, RUNS, Columns, Session
 
 TABLES = ("schema_version", "terms", "calls", "events", "registrations", "removed")
@@ -92,7 +92,7 @@ class Documented(unittest.TestCase):
 
     def test_queries(self) -> None:
         """They answer over made records, and run over the tables of the crate."""
-        queries = re.findall(r"^```sql\n(.*?)^```$", self.document, re.M | re.S)
+        queries = queries_of(self.document)
         with tempfile.TemporaryDirectory() as folder, \
                 opened(make_records(pathlib.Path(folder, "made.db"))) as made:
             insert(made, "events", MORE_EVENTS)

@@ -13,6 +13,7 @@ from temzaar.hub.counts import Histogram
 from temzaar.hub.eventlog import EventFilter, EventLog, KeptEvent
 from temzaar.hub.eventviews import event_view, events_view
 from temzaar.hub.lines import OWN
+from temzaar.hub.model import SiteModel
 from temzaar.hub.moment import Moment
 from temzaar.hub.newrecords import EVENT_SECONDS
 from temzaar.hub.pagefiles import load_page
@@ -59,18 +60,19 @@ class Documented(unittest.TestCase):
     def test_the_page(self) -> None:
         """Queries, keys and figures of the page's paths, and how much memory they take."""
         queries = [(title, name, kind.says) for title, kinds in (("radios", RADIO_KEYS), ("names", NAME_KEYS), ("calls", CALL_KEYS), ("events", EVENT_KEYS)) for name, kind in kinds.items()]
-        self.assertEqual([tuple(row[:3]) for row in table_rows(HUB, "| query of | key")], queries)
-        self.assertEqual([row[0] for row in table_rows(HUB, "| figure | what it is")], [*FIGURES])
-        self.assertEqual([name for row in table_rows(HUB, "| count | what it is") for name in row[0].split(", ")], [*KINDS])
+        # a row may be of several paths and keys with one range
+        self.assertEqual(sorted((title, name, row[2]) for row in table_rows(HUB, "| query of | key") for title in row[0].split(", ") for name in row[1].split(", ")), sorted(queries))
+        self.assertEqual([name for row in table_rows(HUB, "| figure, count | what it is") for name in row[0].split(", ")], [*FIGURES, *KINDS])
         call = call_view(SeenCall(1, (0, 1), Parties("group", 91, 1001), Moment(0, 0), False), NO_NAMES)
         named = " ".join(cell for row in table_rows(HUB[HUB.index("### Seen calls"):], "| key | value") for cell in row)
         self.assertEqual([name for name in call if not re.search(rf"\b{name}\b", named)], [])
         samples = sum(span.octets() for span in Samples().spans.values())
         counts = sum(span.octets() for span in RecordSamples().spans.values())
-        for text in (f"their counts take {counts:,} octets", f"The samples take {samples:,} octets", f"The last {MOST_ENDED:,} calls that ended take {len(CallLog().ended.octets):,} octets", f"at most, {MOST_ENDED:,}"):
-            self.assertIn(text, HUB)
+        memory = dict(table_rows(HUB, "| what | limit |"))["memory of the page"]  # type: ignore[arg-type]
+        for text in ("files, about 70,000 octets", f"samples, {samples:,}", f"the last {MOST_ENDED:,} calls that ended, {len(CallLog().ended.octets):,}", f"their counts {counts:,}"):
+            self.assertIn(text, memory)
+        self.assertIn(f"at most, {MOST_ENDED:,}", HUB)
         self.assertEqual(round(sum(len(it.body) for it in load_page().values()), -4), 70_000)
-        self.assertIn("The page's files, about 70,000 octets", HUB.replace("\n", " "))
 
     def test_the_limits(self) -> None:
         """The numbers of the table of limits are those of the code."""
@@ -78,10 +80,10 @@ class Documented(unittest.TestCase):
         for what, said in (
                 ("silent connections", f"for {places.SILENT_SECONDS:g} s at least"), ("refused HTTP connections", f"at most {places.MOST_REFUSED} at a time"),
                 ("connects to a port", f"{lineport.ACCEPTS_PER_SECOND:g} a second, and {lineport.ACCEPTS_AT_ONCE} at once after a rest; {lineport.BACKLOG:,} wait"),
-                ("lines of a user", f"{session.LINES_PER_SECOND:g} a second over all connections, and {session.LINES_AT_ONCE} at once after a rest. {session.PIECE:,} octets"),
+                ("lines of a user", f"{session.LINES_PER_SECOND:g} a second over all connections, and {session.LINES_AT_ONCE} at once after a rest; further ones wait. {session.PIECE:,} octets"),
                 ("notes", f"{notes.MOST_NOTES} about a user of each kind in a minute"),
-                ("the file of names", f"{namebook.LOOK_SECONDS:g} s for a look"),
-                ("a user's name, the audit log, the records", f"{roles.NAME_SECONDS:g} s, {audit.WRITE_SECONDS:g} s and {recordreader.LOOK_SECONDS:g} s")):
+                ("a user's name, the audit log, the records, the file of names",
+                 f"{roles.NAME_SECONDS:g} s, {audit.WRITE_SECONDS:g} s, {recordreader.LOOK_SECONDS:g} s and {namebook.LOOK_SECONDS:g} s")):
             self.assertIn(said, rows[what])
         self.assertEqual((session.REFUSALS_PER_SECOND, session.MOST_REFUSALS, session.REFUSALS_SECONDS, notes.NOTES_SECONDS, turn.SHARE), (2, 10, 3600, 60, 0.25))
 
@@ -93,10 +95,10 @@ class Documented(unittest.TestCase):
     def test_events(self) -> None:
         """The kinds, and which need an acknowledgement; how many are kept, and how much is read; and the keys of an event."""
         rows = table_rows(HUB, "| event | what happened")
-        self.assertEqual({row[0]: row[3] != "no" for row in rows}, {kind.value: kind in NEED_ACKNOWLEDGEMENT for kind in EventKind})
+        self.assertEqual({name: row[3] != "no" for row in rows for name in row[0].split(", ")}, {kind.value: kind in NEED_ACKNOWLEDGEMENT for kind in EventKind})
         limits = dict(table_rows(HUB, "| what | limit |"))  # type: ignore[arg-type]
         self.assertIn(f"the newest {MOST_OF_A_KIND} of each kind", limits["events"])
-        self.assertIn(f"{audit.TAIL_OCTETS // 1024} KiB each", limits["what is read of events at the hub's start"])
+        self.assertIn(f"{audit.TAIL_OCTETS // 1024} KiB each", limits["events"])
         self.assertEqual((EVENT_SECONDS, eventfeed.SLACK_SECONDS, eventfeed.SLACK_POLLS, eventwatch.AWAY_SECONDS, eventwatch.REJOIN_SECONDS, eventwatch.RECORDS_SECONDS), (86_400, 5, 5, 1, 10, 60))
         event = SiteEvent(0, EventKind.REFUSED, 1, 2, 3, "none", "stay", "alice", "ok", 2, 5)
         names = names_of([((Kind.CARRIER, 1), "A"), ((Kind.RADIO, 2), "B"), ((Kind.RADIO, 3), "C")])
@@ -132,6 +134,13 @@ class Metrics(HubCase):
         rows = metric_rows(HUB)
         self.assertEqual({name: kind for name, kind, _ in rows}, dict(shown))
         self.assertEqual(len(rows), len(shown))
+        # what each is only its HELP says
+        self.assertEqual([it.name for it in series if not re.fullmatch(r"[A-Z].*\.", it.about)], [])
+        # without records, and while the controller is away too
+        unread = {it.name for it in dataclasses.replace(hub.views, records=None).all_series()}
+        always = {it.name for it in dataclasses.replace(hub.views, records=None, model=SiteModel()).all_series()}
+        there = {name: row[2] for row in table_rows(HUB, "| metrics, with their labels") for name in re.findall(r"\w+_\w+", row[0])}
+        self.assertEqual(there, {name: "always" if name in always else "up" if name in unread else "records" for name, _ in shown})
         labels = {name: used for name, _, used in rows}
         for it in series:
             if not isinstance(it, Histogram):

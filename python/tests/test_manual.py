@@ -172,7 +172,7 @@ class Form(unittest.TestCase):
         assert spec
         writing = importlib.util.module_from_spec(spec)
         loader.exec_module(writing)
-        for section, row in (("OPTIONS", "| --nothing | Text. |"), ("EXIT STATUS", "| 7 | Text. |"), ("DESCRIPTION", "@nothing")):
+        for section, row in (("OPTIONS", "| --nothing | Text. |"), ("EXIT STATUS", "| 7 | Text. |"), ("DESCRIPTION", "@nothing"), ("FILES", "@paragraph HUB.md No paragraph begins so")):
             with self.subTest(row), tempfile.TemporaryDirectory() as folder:
                 path = pathlib.Path(folder, "dmr_check.1.md")
                 path.write_text(f"# dmr_check(1): check\n\n## {section}\n\n{row}\n", encoding="utf-8")
@@ -196,6 +196,19 @@ class Options(unittest.TestCase):
         for tool in TOOLS:
             with self.subTest(tool):
                 self.compare(PAGE_OF[tool], options_of(help_of(tool)))
+
+    def test_examples_of_tools(self) -> None:
+        """The commands of a tool's help, each with its text, under the name that is installed."""
+        for tool in TOOLS:
+            with self.subTest(tool):
+                shown = re.sub(r"\\\n +", "", help_of(tool).partition("\nStatus: ")[0])
+                wanted = [re.split(" {2,}", it.strip(), maxsplit=1) for it in re.findall(rf"^    ({tool}(?: .*)?)$", shown.replace("build/", ""), re.M)]
+                self.assertTrue(wanted)
+                entries = {re.sub(" +", " ", tag): entry.text for entry in entries_of(sections_of(PAGE_OF[tool])["EXAMPLES"]) for tag in entry.tags}
+                self.assertEqual(len(entries), len(wanted))
+                for command, *said in wanted:
+                    text = entries[f"dmr_{command}"]
+                    self.assertTrue(not said or says(text, said[0]), f"{command}: {text}")
 
     def test_of_the_controller(self) -> None:
         done = subprocess.run([program("dmr_trunk"), "--help"], capture_output=True, text=True, check=False)

@@ -22,7 +22,7 @@ METRICS = metric_rows(read_document("HUB.md"))
 LABELS = {name: labels for name, _, labels in METRICS}
 HISTOGRAMS = [name for name, kind, _ in METRICS if kind == "histogram"]
 METRICS = {**LABELS, "up": set(), **{f"{name}_bucket": {"le"} for name in HISTOGRAMS}}
-# Labels that each series has in Prometheus, the last one if the target has it (HUB.md, "Metrics").
+# Labels that each series has in Prometheus, the last one if the target has it (deploy/prometheus/scrape.yml).
 OF_PROMETHEUS = {"job", "instance", "site"}
 # The words of PromQL that the expressions use.
 WORDS = {"and", "or", "sum", "rate", "increase", "absent", "time", "histogram_quantile", "max_over_time"}
@@ -140,20 +140,19 @@ class Rules(unittest.TestCase):
             self.assertEqual(done.returncode, 0, done.stdout + done.stderr)
 
 
-class ScrapeConfigs(unittest.TestCase):
-    """The configurations of Prometheus in docs/HUB.md."""
+class ScrapeConfig(unittest.TestCase):
+    """The job for Prometheus."""
 
-    def test_promtool_accepts_them(self) -> None:
-        found = [re.sub(r"^    ", "", it, flags=re.M) for it in re.findall(r"^    scrape_configs:\n(?:      .*\n)+", read_document("HUB.md"), re.M)]
-        self.assertEqual(["labels: {site: " in it for it in found], [True])
+    def test_promtool_accepts_it(self) -> None:
+        text = (RULES.parent / "scrape.yml").read_text(encoding="utf-8")
+        self.assertRegex(text, r'- job_name: dmr_site\n(?:.*\n)* +labels: \{site: ')
         if not shutil.which("promtool"):
             self.skipTest("there is no promtool: the package prometheus has it")
-        for text in found:
-            with tempfile.TemporaryDirectory() as folder:
-                path = pathlib.Path(folder, "prometheus.yml")
-                path.write_text(f'rule_files: ["{RULES}"]\n{text}', encoding="utf-8")
-                done = subprocess.run(["promtool", "check", "config", str(path)], capture_output=True, text=True, check=False)
-            self.assertEqual(done.returncode, 0, done.stdout + done.stderr)
+        with tempfile.TemporaryDirectory() as folder:
+            path = pathlib.Path(folder, "prometheus.yml")
+            path.write_text(f'rule_files: ["{RULES}"]\n{text}', encoding="utf-8")
+            done = subprocess.run(["promtool", "check", "config", str(path)], capture_output=True, text=True, check=False)
+        self.assertEqual(done.returncode, 0, done.stdout + done.stderr)
 
 
 class Scraped(WebCase):

@@ -42,7 +42,7 @@ class Contents(unittest.TestCase):
     """The links at the head of a page to its headings."""
 
     def faults(self, head: str, lines: int, place: int = 1) -> list[str]:
-        """The faults of a page of so many lines with five headings, and a line `head` at a place."""
+        """The faults of a page of `lines` lines with five headings, and a line `head` at a place."""
         text = ["# Page", *["words"] * (lines - 10), "```", "## none", "```", *(f"## The `{it}`" for it in "abcde")]
         return list(contents_faults("docs/A.md", "\n".join([*text[:place], head, *text[place:]]) + "\n"))
 

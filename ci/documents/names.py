@@ -24,6 +24,9 @@ def static_faults(document: pathlib.Path) -> Iterator[str]:
     for path in () if str(name) in HISTORY else sorted(set(re.findall(r"`(dmr_\w+/[\w./*-]*\w)", text))):
         if not any((TOP / "crates").glob(path)) and not any((TOP / "crates").glob(path + "*")):
             yield f"{name}: there is no crates/{path}"
+    for test in sorted(set(re.findall(r"`(test_\w+\.py)`", text))):
+        if not (TOP / "python/tests" / test).is_file():
+            yield f"{name}: there is no python/tests/{test}"
     for target in sorted(set(re.findall(r"[`\n] *make ([a-z][a-z-]*)", text)) - targets):
         yield f"{name}: there is no target {target}"
     for link in sorted(set(re.findall(r"\]\(([^)#:]+)\)", text))):

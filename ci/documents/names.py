@@ -24,6 +24,9 @@ def static_faults(document: pathlib.Path) -> Iterator[str]:
     for path in () if str(name) in HISTORY else sorted(set(re.findall(r"`(dmr_\w+/[\w./*-]*\w)", text))):
         if not any((TOP / "crates").glob(path)) and not any((TOP / "crates").glob(path + "*")):
             yield f"{name}: there is no crates/{path}"
+    for test in sorted(set(re.findall(r"`(test_\w+\.py)`", text))):
+        if not (TOP / "python/tests" / test).is_file():
+            yield f"{name}: there is no python/tests/{test}"
     for target in sorted(set(re.findall(r"[`\n] *make ([a-z][a-z-]*)", text)) - targets):
         yield f"{name}: there is no target {target}"
     for link in sorted(set(re.findall(r"\]\(([^)#:]+)\)", text))):
@@ -35,13 +38,17 @@ def static_faults(document: pathlib.Path) -> Iterator[str]:
             yield f"{name}: the link {link}#{heading} leads to no heading"
 
 
+def anchor_of(heading: str) -> str:
+    """The anchor of a heading that is the first of its words, as GitHub makes it."""
+    return re.sub(r"[^\w\- ]", "", re.sub(r"\[([^\]]*)\]\([^)]*\)", r"\1", heading).lower()).replace(" ", "-")
+
+
 @functools.cache
 def anchors_of(document: pathlib.Path) -> set[str]:
     """The anchors of a document's headings, as GitHub makes them."""
     anchors: list[str] = []
     for heading in re.findall(r"^#+ (.*)", re.sub(r"^```.*?^```$", "", document.read_text(encoding="utf-8"), flags=re.M | re.S), re.M):
-        words = re.sub(r"\[([^\]]*)\]\([^)]*\)", r"\1", heading).lower()
-        anchor = re.sub(r"[^\w\- ]", "", words).replace(" ", "-")
+        anchor = anchor_of(heading)
         anchors.append(f"{anchor}-{anchors.count(anchor)}" if anchor in anchors else anchor)
     return set(anchors)
 
@@ -103,7 +110,7 @@ def example_faults(document: pathlib.Path) -> Iterator[str]:
 
 def lemmas_of(path: pathlib.Path) -> set[str]:
     """The lemmas that an antt file states: the names before a colon, at the beginning of a line."""
-    return set(re.findall(r"^ *(?:pub )?([^\W\d][\w'-]*) :", path.read_text(encoding="utf-8"), re.M))
+    return set(re.findall(r"^ *(?:pub )?([^\W\d][\w'-]*) :", path.read_text(encoding="utf-8"), re.M)) if path.is_file() else set()
 
 
 def table_of(section: str, header: str) -> list[list[str]]:
@@ -120,25 +127,36 @@ def lemma_files(crate: pathlib.Path) -> Iterator[tuple[str, str]]:
         yield name, " ".join(line.removeprefix("--").strip() for line in (comment[0] if comment else "").splitlines())
 
 
+def main_lemmas(section: str) -> list[str]:
+    """The lemmas that the table of a section of docs/PROOFS.md names."""
+    return [name for names, *_ in table_of(section, "lemma") for name in re.findall(r"`([^`]+)`", names)]
+
+
+def proof_sections() -> Iterator[tuple[str, str]]:
+    """The sections of docs/PROOFS.md, each with the crate that it is of, or with nothing."""
+    for section in re.split(r"^(?=## )", PROOFS.read_text(encoding="utf-8"), flags=re.M):
+        heading = re.match(r"## `(\w+)`", section)
+        yield heading[1] if heading else "", section
+
+
 def proof_faults() -> Iterator[str]:
-    """The names in docs/PROOFS.md that the crate of their section does not have, the lemmas that their file does not state, and lemma files without a comment."""
+    """The names in docs/PROOFS.md that the crate of their section does not have, the lemmas that no file or more than one states, and lemma files without
+    a comment."""
     crates = all_sources()
     # a name: a word, or words joined, or a file or folder within a crate
     looks_like_name = re.compile(r"[^\W\d][\w'-]*(?:(?:::|\.)[^\W\d][\w'-]*)*/?|[\w./-]+\.(?:rt|antt)")
-    for section in re.split(r"^(?=## )", PROOFS.read_text(encoding="utf-8"), flags=re.M):
-        heading = re.match(r"## `(\w+)`", section)
-        crate = heading[1] if heading else "a crate"
-        own = [crates[crate]] if heading else list(crates.values())
+    for crate, section in proof_sections():
+        own = [crates[crate]] if crate else list(crates.values())
         prose = re.sub(r"^    .*\n", "", section, flags=re.M)
         for name in sorted(set(re.findall(r"`([^`\n]+)`", prose))):
             if looks_like_name.fullmatch(name) and name not in crates and not (TOP / name).is_file() and not any(sources.has(name) for sources in own):
-                yield f"docs/PROOFS.md: {crate} has no {name}"
-        if not heading:
+                yield f"docs/PROOFS.md: {crate or 'a crate'} has no {name}"
+        if not crate:
             continue
-        for names, where, *_ in table_of(section, "lemma"):
-            stated = set().union(*(lemmas_of(path) for path in own[0].named(f"proofs/{where.strip('`')}.antt")))
-            if lacking := [name for name in re.findall(r"`([^`]+)`", names) if name not in stated]:
-                yield f"docs/PROOFS.md: {crate}: {where} does not have {', '.join(lacking)}"
+        files = {name: lemmas_of(own[0].crate / f"proofs/{name}.antt") for name, _ in lemma_files(own[0].crate)}
+        for lemma in main_lemmas(section):
+            if len(places := [name for name, stated in files.items() if lemma in stated]) != 1:
+                yield f"docs/PROOFS.md: {crate}: {lemma} is stated in {' and '.join(places) or 'no file'}"
         for name, comment in lemma_files(own[0].crate):
             if not comment:
                 yield f"{crate}: proofs/{name}.antt does not say in its first comment what it is for"

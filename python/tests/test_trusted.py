@@ -103,7 +103,7 @@ class Trusted(unittest.TestCase):
 
     def test_a_line_for_each_file(self) -> None:
         """A definition comes after those that it uses. Its text is printed on demand, with the comments."""
-        self.assertEqual(self.printed(), f"# Head\n\nThe functions: `one::count`.\n{PAGE}")
+        self.assertEqual(self.printed(), f"# Head\n\nThe functions: [`one::count`](#onecount).\n{PAGE}")
         self.assertIn(TEXT, self.printed(True))
         self.assertIn("```\n/// A kind.\npub struct Kind {\n", self.printed(True))
 

@@ -20,8 +20,8 @@ from datetime import UTC, datetime
 from typing import NamedTuple
 
 from temzaar.faults import system_fault
-from temzaar.moments import milliseconds_of
-from temzaar.records import LOCK_SECONDS, LOG, Records, RecordsFault
+from temzaar.moments import Span, milliseconds_of
+from temzaar.records import LOCK_SECONDS, LOG, Records, RecordsFault, within
 
 # The folder of the months' files, if the systemd unit runs.
 DEFAULT_FOLDER = "/var/lib/dmr_archive"
@@ -48,12 +48,6 @@ class MonthFile(NamedTuple):
     def name(self) -> str:
         """The name of the file."""
         return f"{self.month}.db" if self.turn == 1 else f"{self.month}.{self.turn}.db"
-
-
-class Span(NamedTuple):
-    """A time from one millisecond on, up to another that is not in it."""
-    first: int
-    end: int
 
 
 @dataclass
@@ -86,11 +80,6 @@ def month_span(month: str) -> Span:
     # the calendar ends with the year 9999
     end = datetime(*ends, 1, tzinfo=UTC) if ends[0] < 10000 else datetime.max.replace(tzinfo=UTC)
     return Span(milliseconds_of(begins), milliseconds_of(end))
-
-
-def within(table: str, span: Span) -> tuple[str, list[int]]:
-    """The condition that a row of a table is of a time."""
-    return f"{TIMES[table]} >= ? AND {TIMES[table]} < ?", [*span]
 
 
 class Archive:
@@ -355,7 +344,7 @@ NOT_THERE = "number NOT IN (SELECT number FROM main.{table})"
 def count_rows(conn: sqlite3.Connection, table: str, span: Span, schema: str = "main",
                more: str = "1") -> int:
     """How many rows of a table are of a span, and meet another condition."""
-    condition, values = within(table, span)
+    condition, values = within(TIMES[table], span)
     rows = f"{schema}.{table} WHERE {condition} AND {more.format(table=table)}"
     count: int = conn.execute(f"SELECT count(*) FROM {rows}", values).fetchone()[0]
     return count
@@ -363,7 +352,7 @@ def count_rows(conn: sqlite3.Connection, table: str, span: Span, schema: str = "
 
 def copy_rows(conn: sqlite3.Connection, table: str, span: Span) -> int:
     """Copies the rows of a span that are not there. How many they are."""
-    condition, values = within(table, span)
+    condition, values = within(TIMES[table], span)
     listed = ", ".join(columns(conn, "site", table))
     return conn.execute(f"INSERT INTO main.{table} ({listed}) SELECT {listed} FROM site.{table}"
                         f" WHERE {condition} AND {NOT_THERE.format(table=table)}", values).rowcount
@@ -371,7 +360,7 @@ def copy_rows(conn: sqlite3.Connection, table: str, span: Span) -> int:
 
 def remove_rows(conn: sqlite3.Connection, table: str, span: Span) -> int:
     """Removes the rows of a span. How many they were."""
-    condition, values = within(table, span)
+    condition, values = within(TIMES[table], span)
     return conn.execute(f"DELETE FROM {table} WHERE {condition}", values).rowcount
 
 
@@ -379,7 +368,7 @@ def months_of(records: Records, span: Span) -> list[str]:
     """The months that have rows of a span, oldest first."""
     found: set[str] = set()
     for table, column in TIMES.items():
-        condition, values = within(table, span)
+        condition, values = within(column, span)
         month = f"strftime('%Y-%m', {column} / 1000, 'unixepoch')"
         query = f"SELECT DISTINCT {month} FROM {table} WHERE {condition}"
         found |= {row[0] for row in records.conn.execute(query, values)}

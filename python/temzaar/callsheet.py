@@ -1,13 +1,11 @@
 """The list of calls as text, CSV and JSON."""
-import csv
-import io
 import json
 from enum import Enum
 
 from temzaar.calls import CallRecord
 from temzaar.clock import Clock, Window
 from temzaar.names import CALL_FIELDS, NAME_COLUMNS, NO_NAMES, Kind, Names, called_kind, named
-from temzaar.printable import safe_cell, text_table
+from temzaar.printable import csv_text, text_table
 
 COLUMNS = ("begun", "ended", "begun_time", "ended_time", "carrier", "slot", "kind", "source", "target", "cause", "waited_ticks", "waited_seconds")
 
@@ -56,8 +54,4 @@ def write_list(records: list[CallRecord], clock: Clock, form: ListFormat, names:
     rows = [call_row(it, clock, names) for it in records]
     if form is ListFormat.JSON:
         return json.dumps(rows, indent=2) + "\n"
-    out = io.StringIO(newline="")
-    writer = csv.DictWriter(out, COLUMNS if names is None else (*COLUMNS, *CALL_FIELDS), lineterminator="\n")
-    writer.writeheader()
-    writer.writerows({name: safe_cell(value) for name, value in row.items()} for row in rows)
-    return out.getvalue()
+    return csv_text(rows, COLUMNS if names is None else (*COLUMNS, *CALL_FIELDS))

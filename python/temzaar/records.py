@@ -16,6 +16,7 @@ from dataclasses import dataclass, field
 from typing import Any
 
 from temzaar.faults import MOST_OCTETS, ToolFault
+from temzaar.moments import Span
 
 # The path of the file, if the systemd unit of the controller runs.
 DEFAULT_PATH = "/var/lib/dmr_trunk/site.db"
@@ -53,6 +54,11 @@ def require(holds: bool, row: str, about: str) -> None:
 def is_whole(value: object, least: int | None = None, most: int | None = None) -> bool:
     """Whether a value is a whole number, in a range."""
     return isinstance(value, int) and (least is None or value >= least) and (most is None or value <= most)
+
+
+def within(column: str, span: Span) -> Where:
+    """The condition that the time of a row is within a span."""
+    return f"{column} >= ? AND {column} < ?", [*span]
 
 
 @dataclass(frozen=True)

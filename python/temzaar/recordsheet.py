@@ -1,7 +1,5 @@
 """The calls of a file of records as a table, CSV and JSON, with who joined them; and which of them are asked for."""
 import bisect
-import csv
-import io
 import json
 from collections.abc import Mapping
 from dataclasses import dataclass
@@ -10,7 +8,7 @@ from typing import Any
 
 from temzaar.moments import iso_text, short_text
 from temzaar.names import CALL_FIELDS, NAME_COLUMNS, NO_NAMES, Kind, Names, called_kind, named
-from temzaar.printable import printable, safe_cell, text_table
+from temzaar.printable import csv_text, printable, text_table
 from temzaar.recordgaps import Gap
 from temzaar.records import RecordedCall, RecordedEvent, Records, Where
 
@@ -111,21 +109,6 @@ def lines_below(gaps: list[Gap], until_ms: int | None) -> list[str]:
         return ["no term has ended yet: nothing is recorded"]
     more = [f"{len(gaps) - MOST_GAPS} earlier times without records are not listed"] if len(gaps) > MOST_GAPS else []
     return [*more, *(it.in_words() for it in gaps[-MOST_GAPS:]), f"recorded up to {short_text(until_ms)}; the term that is running is not in it"]
-
-
-def csv_row(row: dict[str, Any]) -> dict[str, Any]:
-    """The cells of a row in CSV. A list is a text with `; ` between its parts."""
-    cells = {name: "; ".join("" if it is None else str(it) for it in value) if isinstance(value, list) else value for name, value in row.items()}
-    return {name: safe_cell(value) for name, value in cells.items()}
-
-
-def csv_text(rows: list[dict[str, Any]], columns: tuple[str, ...]) -> str:
-    """Rows as CSV, with a line of the names of the columns."""
-    out = io.StringIO(newline="")
-    writer = csv.DictWriter(out, columns, lineterminator="\n")
-    writer.writeheader()
-    writer.writerows(map(csv_row, rows))
-    return out.getvalue()
 
 
 def write_sheet(calls: list[RecordedCall], joined: Joined, form: SheetFormat, names: Names | None = None) -> str:

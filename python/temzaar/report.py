@@ -16,10 +16,12 @@ from temzaar.names import NO_NAMES, Kind, Names
 from temzaar.printable import csv_text, printable, text_table
 from temzaar.recordsheet import SheetFormat
 from temzaar.sitefigures import seconds_in_words
-from temzaar.traffic import HOUR_MS, Hour, SlotKey, Traffic, Use, busiest
+from temzaar.traffic import HOUR_MS, RECONNECT_MS, Hour, SlotKey, Traffic, Use, busiest
 
 # How many of the busiest are listed, and how many rows of other sheets as text and on the page.
-BUSIEST, MOST_ROWS = 10, 30
+BUSIEST, MOST_ROWS = 10, 20
+# The sheet of hours, which as text and on the page is a table of days.
+HOURS = "hours"
 # The bounds of waits in the distribution, in seconds, besides the limit.
 BOUNDS = (1.0, 2.0, 5.0, 10.0, 20.0, 30.0, 60.0)
 # For how many slots more and less the formula is shown.
@@ -78,7 +80,7 @@ class Sheet:
     def shown_notes(self) -> list[str]:
         """The notes, and how many rows are not shown."""
         more = len(self.rows) - MOST_ROWS
-        left = [f"and {more} more, which `--format csv` has"] if more > 0 else []
+        left = [f"and {more} more; --format csv has all"] if more > 0 else []
         return [*left, *([] if self.rows or not self.nothing else [self.nothing]), *self.notes]
 
 
@@ -136,8 +138,9 @@ def title_of(span: Span) -> str:
 def make_report(traffic: Traffic, asked: Asked) -> Report:
     """The report of a period's figures."""
     sheets = [hours_sheet(traffic, asked), *slots_sheet(traffic, asked), waits_sheet(traffic, asked),
-              *erlang_sheet(traffic, asked), refusals_sheet(traffic), groups_sheet(traffic, asked),
-              radios_sheet(traffic, asked), silent_sheet(traffic, asked),
+              *erlang_sheet(traffic, asked), refusals_sheet(traffic),
+              busiest_sheet(traffic, asked, Kind.TALKGROUP),
+              busiest_sheet(traffic, asked, Kind.RADIO), silent_sheet(traffic, asked),
               outages_sheet(traffic, asked), gaps_sheet(traffic), commands_sheet(traffic, asked)]
     facts, notes = [*facts_of(traffic, asked)], [*notes_of(traffic, asked)]
     return Report(title_of(asked.span), facts, traffic.hours, traffic.busy_hour(), sheets, notes)
@@ -146,8 +149,6 @@ def make_report(traffic: Traffic, asked: Asked) -> Report:
 def facts_of(traffic: Traffic, asked: Asked) -> Iterator[tuple[str, str]]:
     """The most important figures, each with its name."""
     yield "calls", str(traffic.calls)
-    if traffic.recorded_ms:
-        yield "traffic, mean", f"{traffic.used_ms / traffic.recorded_ms:.2f} Erlang"
     busy = traffic.busy_hour()
     yield "busy hour", moment_text(busy.begins_ms) if busy else "not known"
     if busy and busy.erlang:
@@ -195,7 +196,7 @@ def hours_sheet(traffic: Traffic, asked: Asked) -> Sheet:
     else:
         notes = ("For the occupancy of slots, and for what more slots would change, give their "
                  "number: --slots N, or --site FILE.",)
-    return Sheet("hours", "Traffic by hour, Erlang", columns, rows, notes)
+    return Sheet(HOURS, "Traffic by hour, Erlang", columns, rows, notes)
 
 
 def slots_sheet(traffic: Traffic, asked: Asked) -> Iterator[Sheet]:
@@ -268,31 +269,23 @@ def use_cells(traffic: Traffic, use: Use) -> list[Cell]:
     return [use.calls, joined, use.used_ms / MINUTE_MS, share]
 
 
-def groups_sheet(traffic: Traffic, asked: Asked) -> Sheet:
-    """The busiest talkgroups."""
-    rows = [[*asked.label(Kind.TALKGROUP, number), *use_cells(traffic, use)]
-            for number, use in busiest(traffic.groups, BUSIEST)]
-    return Sheet("talkgroups", "Busiest talkgroups",
-                 [*asked.columns("talkgroup"), CALLS, JOINED, IN_USE, OF_ALL], rows,
-                 ("Joined are requests of radios while a call of the group was active.",),
-                 "No talkgroup had a call.", "share")
-
-
-def radios_sheet(traffic: Traffic, asked: Asked) -> Sheet:
-    """The busiest radios, by the calls that they began."""
-    rows = [[*asked.label(Kind.RADIO, number), *use_cells(traffic, use)]
-            for number, use in busiest(traffic.radios, BUSIEST)]
-    return Sheet("radios", "Busiest radios, by the calls that they began",
-                 [*asked.columns("radio"), CALLS, JOINED, IN_USE, OF_ALL], rows,
-                 nothing="No radio called.", bar="share")
+def busiest_sheet(traffic: Traffic, asked: Asked, kind: Kind) -> Sheet:
+    """The busiest talkgroups, or radios by the calls that they began."""
+    uses, more = (traffic.groups, "") if kind is Kind.TALKGROUP else (
+        traffic.radios, ", by the calls that they began")
+    rows = [[*asked.label(kind, number), *use_cells(traffic, use)]
+            for number, use in busiest(uses, BUSIEST)]
+    columns = [*asked.columns(kind), CALLS, JOINED, IN_USE, OF_ALL]
+    notes = ("Joined are requests for a talkgroup while a call of it was active.",) if rows else ()
+    return Sheet(f"{kind}s", f"Busiest {kind}s{more}", columns, rows, notes, "There is none.", "share")
 
 
 def silent_sheet(traffic: Traffic, asked: Asked) -> Sheet:
     """The radios that were registered and never called."""
     rows = [[*asked.label(Kind.RADIO, number), called] for number, called in traffic.silent]
     count = len(rows)
-    notes = (f"{count} in all; {sum(not it for _, it in traffic.silent)} of them were not called "
-             "either, but by talkgroups.",) if count else ()
+    notes = (f"{count} in all, of which {sum(not it for _, it in traffic.silent)} were not called by "
+             "their number either.",) if count else ()
     return Sheet("silent", "Registered, and never called",
                  [*asked.columns("radio"), Column("calls to it", digits=COUNT)], rows, notes,
                  "There is none.")
@@ -305,7 +298,9 @@ def outages_sheet(traffic: Traffic, asked: Asked) -> Sheet:
          (it.to_ms - it.from_ms) / MINUTE_MS, it.why if it.is_back else f"{it.why}, and not back"]
         for it in traffic.outages]
     columns = [Column("from"), Column("to"), *asked.columns("carrier"), TIME, Column("why")]
-    return Sheet("outages", "Outages of carriers", columns, rows, nothing="No carrier was lost.")
+    notes = ("After a start of the controller a carrier counts as lost if it was not back within "
+             f"{RECONNECT_MS // 1000} s.",)
+    return Sheet("outages", "Outages of carriers", columns, rows, notes, "No carrier was lost.")
 
 
 def gaps_sheet(traffic: Traffic) -> Sheet:
@@ -408,11 +403,13 @@ def text_report(report: Report) -> str:
     lines = [["", *heat.clock], *([day, *map(heat_text, hours)] for day, hours in heat.days)]
     parts = [f"{report.title}\n\n{facts}"]
     for sheet in report.sheets:
-        rows = [[it.title for it in sheet.columns], *sheet.shown_rows()]
-        table = text_table(rows, [it.digits is not None for it in sheet.columns])
-        if sheet.key == "hours":
-            table = text_table(lines, [False, *(True for _ in heat.clock)])
-        parts.append(f"{sheet.title}\n{table if sheet.rows else ''}{filled(sheet.shown_notes())}")
+        if sheet.key == HOURS:
+            table, notes = text_table(lines, [False, *(True for _ in heat.clock)]), [*sheet.notes]
+        else:
+            rows = [[it.title for it in sheet.columns], *sheet.shown_rows()]
+            table = text_table(rows, [it.digits is not None for it in sheet.columns])
+            notes = sheet.shown_notes()
+        parts.append(f"{sheet.title}\n{table if sheet.rows else ''}{filled(notes)}")
     parts.append(filled(report.notes))
     return "\n".join(parts)
 

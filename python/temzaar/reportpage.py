@@ -6,11 +6,14 @@ import re
 from collections.abc import Iterator
 from datetime import datetime
 from html import escape
+from itertools import zip_longest
 
 from temzaar.faults import read_text
 from temzaar.moments import local_time, milliseconds_of, short_text
 from temzaar.printable import printable
-from temzaar.report import Column, Hour, Report, Sheet, heat_of, heat_text
+from temzaar.report import (
+    HOURS, MOST_ROWS, Cell, Column, Hour, Report, Sheet, heat_of, heat_text,
+)
 from temzaar.version import read_version
 
 # The colours are those of the operators' page.
@@ -36,21 +39,22 @@ body { margin: 0; background: var(--page); color: var(--text); font-variant-nume
 h1, h2, p, dl, dd { margin: 0; }
 h1 { font-size: 1.3rem; }
 h2 { font-size: 1rem; margin-bottom: 0.4rem; }
-header, footer { padding: 0.8rem 1rem; }
-.muted, footer, dt, thead th, section p { color: var(--muted); font-size: 0.85rem; }
+header { padding: 0.8rem 1rem; }
+dt, thead th, section p { color: var(--muted); font-size: 0.85rem; }
 section p { margin-top: 0.4rem; }
-dl { display: grid; grid-template-columns: repeat(auto-fit, minmax(8.5rem, 1fr)); gap: 0.6rem;
+dl { display: grid; grid-template-columns: repeat(auto-fit, minmax(9rem, 1fr)); gap: 0.6rem;
   padding: 0 1rem; }
 dl div, section { background: var(--card); border: 1px solid var(--line); border-radius: 8px;
   padding: 0.5rem 0.8rem; min-width: 0; }
 dd { font-size: 1.15rem; font-weight: 600; }
-main { display: grid; grid-template-columns: repeat(2, minmax(0, 1fr)); gap: 0.8rem;
-  padding: 0.8rem 1rem; align-items: start; }
-.wide { grid-column: 1 / -1; }
+main { columns: 2; column-gap: 0.8rem; padding: 0.8rem 1rem; }
+section { break-inside: avoid; margin-bottom: 0.8rem; }
+.wide { column-span: all; }
 table { border-collapse: collapse; width: 100%; }
-th, td { text-align: left; font-weight: normal; vertical-align: baseline; overflow-wrap: anywhere;
+th, td { text-align: left; font-weight: normal; vertical-align: baseline;
   border-top: 1px solid var(--line); padding: 0.2rem 0.6rem 0.2rem 0; }
 thead th { border-top: 0; }
+td.number { white-space: nowrap; }
 .number { text-align: right; }
 .bar { width: 22%; padding-right: 0; }
 .bar svg { display: block; width: 100%; height: 0.7rem; }
@@ -69,9 +73,10 @@ thead th { border-top: 0; }
 .heat-6 { background: var(--heat-6); color: var(--heat-light); }
 .heat .busy { outline: 2px solid var(--text); outline-offset: -2px; font-weight: 700; }
 @media screen and (max-width: 800px) {
-  main { grid-template-columns: minmax(0, 1fr); padding: 0.6rem; }
+  main { columns: 1; padding: 0.6rem; }
   dl { padding: 0 0.6rem; }
-  td.bar, th.bar { display: none; }
+  th, td { padding-right: 0.4rem; font-size: 0.9rem; }
+  td.bar, th.bar, .heat td:empty { display: none; }
   .heat thead { display: none; }
   .heat tr { display: grid; grid-template-columns: repeat(6, minmax(0, 1fr)); }
   .heat tbody th { grid-column: 1 / -1; border: 0; padding-top: 0.6rem; }
@@ -84,12 +89,13 @@ thead th { border-top: 0; }
     --text: #000000; --muted: #333333; --line: #aaaaaa; --gap: #ffffff; }
   html { font-size: 8.5pt; }
   body { print-color-adjust: exact; -webkit-print-color-adjust: exact; }
-  header, footer, dl, main { padding: 0 0 0.6rem; }
-  dl { grid-template-columns: repeat(5, 1fr); }
+  header, dl, main { padding: 0 0 0.6rem; }
+  dl { grid-template-columns: repeat(8, 1fr); }
+  dl div { padding: 0.2rem 0.4rem; }
   dl div, section { border-radius: 0; }
-  section, tr { break-inside: avoid; }
+  th, td { padding: 0.05rem 0.4rem 0.05rem 0; }
+  .bar { width: 12%; }
   .heat th, .heat td { font-size: 7pt; }
-  .heat th:first-child { width: 5.6rem; }
 }
 """
 
@@ -143,25 +149,40 @@ def heat_map(report: Report) -> Iterator[str]:
            "has a frame.</p>")
 
 
-def bar(share: float) -> str:
-    """A bar for a share in percent."""
-    width = min(100.0, max(0.0, share))
+def bar(part: Cell, most: float) -> str:
+    """A bar for a part of the most."""
+    width = 100 * part / most if isinstance(part, float) and most else 0
     return ('<svg viewBox="0 0 100 1" preserveAspectRatio="none" aria-hidden="true">'
             f'<rect width="{width:.1f}" height="1"/></svg>')
 
 
 def sheet_table(sheet: Sheet) -> Iterator[str]:
     """A sheet as a table."""
-    at = next((n for n, it in enumerate(sheet.columns) if it.name == sheet.bar), None)
     head = "".join(f'<th scope="col"{align(it)}>{escape(it.title)}</th>' for it in sheet.columns)
-    yield f"<table><thead><tr>{head}{'' if at is None else '<th class=bar></th>'}</tr></thead><tbody>"
-    for texts, row in zip(sheet.shown_rows(), sheet.rows, strict=False):
-        cells = "".join(f"<td{align(column)}>{escape(text)}</td>"
+    bars = [*bars_of(sheet)]
+    yield f"<table><thead><tr>{head}{'<th class=bar></th>' * bool(bars)}</tr></thead><tbody>"
+    for texts, drawn in zip_longest(sheet.shown_rows(), bars, fillvalue=""):
+        cells = "".join(f"<td{align(column)}>{breakable(text)}</td>"
                         for column, text in zip(sheet.columns, texts, strict=True))
-        share = None if at is None else row[at]
-        drawn = "" if at is None else f"<td class=bar>{bar(share) if isinstance(share, float) else ''}</td>"
         yield f"<tr>{cells}{drawn}</tr>"
     yield "</tbody></table>"
+
+
+def breakable(text: str) -> str:
+    """A text for a cell, which may be broken within a long word."""
+    return "<wbr>".join(map(escape, re.split(r"(?<=\S{12})(?=\S)", text)))
+
+
+def bars_of(sheet: Sheet) -> Iterator[str]:
+    """The cells with bars, if the sheet has some: the longest is that of the greatest number, or of
+    all of a slot's time."""
+    at = next((n for n, it in enumerate(sheet.columns) if it.name == sheet.bar), None)
+    if at is None:
+        return
+    parts = [row[at] for row in sheet.rows[:MOST_ROWS]]
+    most = max((it for it in parts if isinstance(it, float)), default=0.0)
+    for part in parts:
+        yield f"<td class=bar>{bar(part, 100.0 if sheet.bar == 'occupancy' else most)}</td>"
 
 
 def align(column: Column) -> str:
@@ -171,14 +192,11 @@ def align(column: Column) -> str:
 
 def section_of(sheet: Sheet, report: Report) -> Iterator[str]:
     """A sheet as a section of the page."""
-    is_wide = sheet.key in ("hours", "erlang_c")
-    yield f'<section id="{sheet.key}"{" class=wide" if is_wide else ""}>'
-    yield f"<h2>{escape(sheet.title)}</h2>"
-    if sheet.key == "hours":
-        yield from heat_map(report)
-    elif sheet.rows:
-        yield from sheet_table(sheet)
-    yield from (f"<p>{escape(it)}</p>" for it in sheet.shown_notes())
+    is_heat = sheet.key == HOURS
+    yield f'<section id="{sheet.key}"{" class=wide" * is_heat}><h2>{escape(sheet.title)}</h2>'
+    if sheet.rows:
+        yield from heat_map(report) if is_heat else sheet_table(sheet)
+    yield from (f"<p>{escape(it)}</p>" for it in (sheet.notes if is_heat else sheet.shown_notes()))
     yield "</section>"
 
 
@@ -198,9 +216,8 @@ def page_parts(report: Report, path: str, now: datetime) -> Iterator[str]:
         yield from section_of(sheet, report)
     yield '<section id="notes" class="wide"><h2>What these figures are</h2>'
     yield from (f"<p>{escape(it)}</p>" for it in report.notes)
-    yield "</section>\n</main>"
-    yield (f"<footer>Made {short_text(made)} ({zone}) by dmr_report {escape(read_version())} "
-           f"of {escape(printable(path))}</footer>\n</body>\n</html>")
+    yield (f"<p>Made {short_text(made)} ({zone}) by dmr_report {escape(read_version())} "
+           f"of {escape(printable(path))}</p></section>\n</main>\n</body>\n</html>")
 
 
 def write_page(report: Report, path: str, now: datetime) -> str:

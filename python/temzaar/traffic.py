@@ -19,8 +19,9 @@ HOUR_MS = 3_600_000
 BUSY_MS = 0.9 * HOUR_MS
 # Why times are not recorded, at the ends of the records.
 EARLIER, LATER, NOTHING = "before the first record", "after the last record", "no records"
-# Why a carrier was lost, if its base station was.
-LOST = "lost"
+# Why a carrier was lost, if its base station was. For how long after a start of the controller it
+# does not count as lost.
+LOST, RECONNECT_MS = "lost", 10_000
 
 SlotKey = tuple[int, int]
 
@@ -251,7 +252,7 @@ def registered_within(records: Records, span: Span) -> set[int]:
 
 def find_outages(records: Records, span: Span) -> Iterator[Outage]:
     """The times of a period for which carriers were lost, by their ends. A start of the controller
-    finds each carrier lost."""
+    finds each carrier lost, which counts if it was not back soon."""
     known, lost = set[int](), dict[int, tuple[int, str]]()
     for at_ms, carrier, is_back in carrier_changes(records, span.end):
         if carrier is None:
@@ -262,7 +263,8 @@ def find_outages(records: Records, span: Span) -> Iterator[Outage]:
             lost.setdefault(carrier, (at_ms, LOST))
         elif carrier in lost:
             from_ms, why = lost.pop(carrier)
-            if at_ms > span.first:
+            is_short = why == RESTARTED and at_ms - from_ms <= RECONNECT_MS
+            if at_ms > span.first and not is_short:
                 yield Outage(carrier, max(from_ms, span.first), at_ms, why, True)
     last = records.last_term()
     end_ms = min(span.end, last.ended_ms if last else span.end)

@@ -12,8 +12,9 @@ was recorded; and operators' commands. If it knows the number of slots for calls
 occupancy, and what one slot fewer, one more and two more would change, by Erlang C.
 
 --from and --to take times of the machine's zone, as `callbook` does: 2026-11-27, 2026-11-27 08:00,
-08:00, which is today, and -2h. A day alone is all of it. Without --to the period ends with the day
-of --from, without --from it begins with the day of --to, and without both it is yesterday.
+08:00, which is today, and -2h. Without both the report is that of yesterday, and with a day as
+--from alone that of the day. After a time as --from alone it ends now, and with --to alone it
+begins with the day of --to.
 
 CSV has a row for each value: the section, the number of the row in it, what the row is about, the
 measure, the value and its unit. JSON has the same rows. What is not known has no value.
@@ -34,7 +35,9 @@ from temzaar.cli.command import (
     parse_words, run_command,
 )
 from temzaar.faults import replace_text
-from temzaar.moments import MomentFault, Span, join_times, read_moment, short_text
+from temzaar.moments import (
+    DAY, MomentFault, Span, join_times, milliseconds_of, read_moment, short_text,
+)
 from temzaar.records import DEFAULT_PATH, LOCK_SECONDS, opened_records
 from temzaar.recordsheet import SheetFormat
 from temzaar.report import Asked, make_report, write_report
@@ -86,8 +89,7 @@ def read_span(first: str | None, last: str | None, now: datetime) -> Span:
     begins = None if first is None else read_moment(first, now)
     ends = None if last is None else end_of(last, now)
     if ends is None:
-        assert begins is not None
-        ends = end_of(short_text(begins)[:10], now)
+        ends = end_of(first, now) if first and DAY.fullmatch(first) else milliseconds_of(now)
     if begins is None:
         begins = read_moment(short_text(ends - 1)[:10], now)
     if not begins < ends:

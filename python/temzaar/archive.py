@@ -268,9 +268,8 @@ def of_terms(conn: sqlite3.Connection, schema: str) -> list[str]:
 
 
 def fits(conn: sqlite3.Connection) -> bool:
-    """Whether a file can have rows of the controller's file: it is empty, or has the same tables
-    or those of an earlier version, and its rows from the controller's oldest on are the
-    controller's."""
+    """Whether a file can have rows of the controller's file. It is empty, or has the same tables or
+    those of an earlier version. Its rows from the controller's oldest on are the controller's."""
     if not table_names(conn, "main"):
         return True
     is_older = version(conn, "main") < version(conn, "site")
@@ -308,8 +307,8 @@ def add_rows(conn: sqlite3.Connection, change: Change, span: Span) -> Change | N
 
 
 def raise_tables(conn: sqlite3.Connection) -> None:
-    """Gives a file of an earlier version the tables of the controller's file, as the controller
-    does. What its rows do not say is NULL."""
+    """Makes the tables of a file of an earlier version those of the controller's file, as the
+    controller does. What its rows do not say is NULL."""
     for table in TIMES:
         there = columns(conn, "main", table)
         for row in conn.execute(f"PRAGMA site.table_info({table})").fetchall():

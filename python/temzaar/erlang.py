@@ -68,7 +68,7 @@ class Service:
 
     @property
     def carriers(self) -> int:
-        """The carriers that have so many slots for calls. One more slot is the control channel."""
+        """The carriers with these slots for calls, and one more slot for the control channel."""
         return (self.slots + 1) // SLOTS
 
     def as_json(self) -> dict[str, object]:

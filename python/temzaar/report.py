@@ -22,7 +22,7 @@ from temzaar.traffic import HOUR_MS, RECONNECT_MS, Hour, SlotKey, Traffic, Use, 
 BUSIEST, MOST_ROWS = 10, 20
 # The sheet of hours, which as text and on the page is a table of days.
 HOURS = "hours"
-# The bounds of waits in the distribution, in seconds, besides the limit.
+# The bounds of waits in the distribution, in seconds, and also the limit.
 BOUNDS = (1.0, 2.0, 5.0, 10.0, 20.0, 30.0, 60.0)
 # For how many slots more and less the formula is shown.
 FEWER, MORE = 1, 2
@@ -86,8 +86,8 @@ class Sheet:
 
 @dataclass(frozen=True)
 class Asked:
-    """What is asked of a report: its period; how long calls may wait, in seconds; how many slots
-    there are for calls, and which, if that is known; and the names."""
+    """What is asked of a report: its period, for how many seconds calls may wait, and the names. How
+    many slots there are for calls, and which, if that is known."""
     span: Span
     limit: float
     slots: int | None = None

@@ -115,23 +115,12 @@ def shade_of(hour: Hour, most: float) -> str:
     return f"heat-{math.ceil((SHADES - 1) * hour.erlang / most) if most else 0}"
 
 
-def hour_title(hour: Hour) -> str:
-    """What a cell says of its hour, if one points at it."""
-    begins, ends = (short_text(it)[11:16] for it in (hour.begins_ms, hour.ends_ms))
-    if hour.erlang is None:
-        return f"{begins} to {ends}: not recorded"
-    recorded = hour.recorded_ms / (hour.ends_ms - hour.begins_ms)
-    part = "" if recorded == 1 else f", {recorded:.0%} of it recorded"
-    return f"{begins} to {ends}: {hour.erlang:.2f} Erlang, {hour.calls} calls{part}"
-
-
 def hour_cell(hour: Hour | None, clock: str, most: float, is_busy: bool) -> str:
     """A cell of the heat map."""
     if hour is None:
         return f'<td data-hour="{clock}"></td>'
     shade = shade_of(hour, most) + " busy" * is_busy
-    title = escape(hour_title(hour))
-    return f'<td class="{shade}" data-hour="{clock}" title="{title}">{heat_text(hour)}</td>'
+    return f'<td class="{shade}" data-hour="{clock}">{heat_text(hour)}</td>'
 
 
 def heat_map(report: Report) -> Iterator[str]:

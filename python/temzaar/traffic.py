@@ -5,12 +5,12 @@ lasted, cut at the ends of hours and of the period, as far as that time is recor
 """
 import bisect
 from collections import Counter, defaultdict
-from collections.abc import Iterable, Iterator
+from collections.abc import Iterator
 from dataclasses import dataclass, field
 from typing import NamedTuple
 
 from temzaar.moments import Span, local_time
-from temzaar.recordgaps import RESTARTED, Gap, find_gaps
+from temzaar.recordgaps import RESTARTED, Gap, Piece, edges_of, find_gaps, pieces
 from temzaar.records import BadRow, RecordedCall, Records, RecordsFault, within
 from temzaar.siteevents import CARRIERS, COMMANDS, EventKind, SiteEvent, event_of, reason_text
 
@@ -46,13 +46,6 @@ class Hour:
     def is_whole(self) -> bool:
         """Whether it is an hour, and recorded but for a short time."""
         return self.recorded_ms >= BUSY_MS
-
-
-class Piece(NamedTuple):
-    """A time of an hour that is recorded."""
-    begins_ms: int
-    ends_ms: int
-    hour: Hour
 
 
 @dataclass
@@ -139,20 +132,9 @@ def hours_of(span: Span) -> Iterator[Hour]:
         begins = ends
 
 
-def pieces_of(hour: Hour, gaps: Iterable[Gap]) -> Iterator[Piece]:
-    """The recorded times of an hour, by the times without records in their order."""
-    at = hour.begins_ms
-    for gap in gaps:
-        if at < min(gap.from_ms, hour.ends_ms):
-            yield Piece(at, min(gap.from_ms, hour.ends_ms), hour)
-        at = max(at, gap.to_ms)
-    if at < hour.ends_ms:
-        yield Piece(at, hour.ends_ms, hour)
-
-
 def kept_since(records: Records, table: str, column: str) -> int:
-    """Since when a file has all rows of a table, by the time of the oldest one, if the controller
-    has removed those before it; else since ever, which is 0."""
+    """Since when a file has all rows of a table: if the controller has removed older ones, since the
+    time of the oldest. Else since ever, which is 0."""
     if not records.conn.execute("SELECT 1 FROM sqlite_schema WHERE name = 'removed'").fetchone():
         return 0
     row = records.conn.execute(f"SELECT number, {column}, (SELECT max({table}) FROM removed)"
@@ -175,13 +157,14 @@ def unrecorded(records: Records, span: Span) -> list[Gap]:
 
 def add_calls(records: Records, traffic: Traffic) -> None:
     """Adds the calls of the period."""
-    pieces = [it for hour in traffic.hours for it in pieces_of(hour, traffic.gaps)]
-    for piece in pieces:
-        piece.hour.recorded_ms += piece.ends_ms - piece.begins_ms
-    ends, begins = [it.ends_ms for it in pieces], [it.begins_ms for it in traffic.hours]
-    span = traffic.span
+    edges, span = edges_of(traffic.gaps, 0), traffic.span
+    recorded = [(piece, hour) for hour in traffic.hours
+                for piece in pieces(edges, hour.begins_ms, hour.ends_ms)]
+    for piece, hour in recorded:
+        hour.recorded_ms += piece.ends - piece.begins
+    begins = [it.begins_ms for it in traffic.hours]
     for call in records.calls(("ended_ms > ? AND began_ms < ?", [*span])):
-        used = use_pieces(call, pieces, bisect.bisect_right(ends, call.began_ms))
+        used = use_hours(call, recorded)
         is_new = span.first <= call.began_ms
         parties = (traffic.slots[call.carrier, call.slot], traffic.radios[call.source])
         for use in (*parties, *([traffic.groups[call.target]] if call.is_group else [])):
@@ -192,15 +175,17 @@ def add_calls(records: Records, traffic: Traffic) -> None:
             add_new_call(call, hour, traffic)
 
 
-def use_pieces(call: RecordedCall, pieces: list[Piece], first: int) -> int:
-    """Adds a call's time to the hours of pieces, from a first one on. How much that is."""
+def use_hours(call: RecordedCall, recorded: list[tuple[Piece, Hour]]) -> int:
+    """Adds a call's time to the hours in which it was active, as far as they are recorded. How much
+    that is."""
     used = 0
-    for number in range(first, len(pieces)):
-        piece = pieces[number]
-        if piece.begins_ms >= call.ended_ms:
+    first = bisect.bisect_right(recorded, call.began_ms, key=lambda it: it[0].ends)
+    for number in range(first, len(recorded)):
+        piece, hour = recorded[number]
+        if piece.begins >= call.ended_ms:
             break
-        part = min(call.ended_ms, piece.ends_ms) - max(call.began_ms, piece.begins_ms)
-        piece.hour.used_ms += part
+        part = min(call.ended_ms, piece.ends) - max(call.began_ms, piece.begins)
+        hour.used_ms += part
         used += part
     return used
 

@@ -274,8 +274,7 @@ class Repeated(ArchiveCase):
         self.expect("nothing to do\n")
 
     def test_the_second_version(self) -> None:
-        """A month that began with the first version has its rows and those of the second, and the
-        counts of its terms; so has a month that begins with the second."""
+        """A month has the rows of both versions, and the counts of the second one's terms."""
         for before in (0, 1, 2):
             with self.subTest(before=before):
                 make_records(self.path, terms=before)

@@ -45,8 +45,7 @@ def term(number: int, begins: int, ends: int, is_start: bool = False) -> tuple[i
 
 def call(number: int, slot: str, parties: str, begins: int, ends: int,
          waited: int | None = 0) -> tuple[object, ...]:
-    """A call, such as `1001 91` to a talkgroup, or `1003 1001` to a radio; it waited for so many
-    ticks."""
+    """A call, such as `1001 91` to a talkgroup, or `1003 1001` to a radio, and its wait in ticks."""
     carrier, _, of_carrier = slot.partition("/")
     source, target = map(int, parties.split())
     return (number, 1, int(carrier), int(of_carrier), int(target < 1000), source, target,

@@ -1,5 +1,4 @@
-"""Prints the calls that the controller has recorded: when each began, how long it was, for how long it waited, on which slot, who called whom, why it ended, and
-who joined.
+"""Prints the calls that the controller has recorded: when each began, how long it was and had waited, its slot, who called whom, why it ended, and who joined.
 
     callbook                                       all calls of /var/lib/dmr_trunk/site.db, newest last
     callbook --records site.db --last 20           the last twenty of this file
@@ -13,12 +12,13 @@ ago; s, m and d are seconds, minutes and days. A call is printed if all options 
 The newest call is the last. The table has times of the machine's zone; CSV and JSON have them as ISO 8601, with milliseconds and the zone's offset. A slot of
 the table is the carrier's number and the slot's. A kind is talkgroup or individual. For how long a request waited for a slot is in seconds, as waited, or
 waited_seconds in CSV and JSON. Radios that asked for a talkgroup's call while it lasted have joined it. Both are empty, and null in JSON, of calls that a
-controller recorded before it kept them. Below the calls are the times without records, and up to when the records
-go. The controller writes the file at the end of each term, so calls of the term that runs are not in it yet. As CSV and JSON the calls go to standard output
-alone, and these lines to standard error.
+controller recorded before it kept them.
 
-With --names a name is next to its number: in the table 1001 [Bus 12], in CSV and JSON as source_name, target_name, carrier_name and joined_names
-after the other columns.
+Below the calls are the times without records, and up to when the records go. The controller writes the file at the end of each term, so calls of the term that
+runs are not in it yet. As CSV and JSON the calls go to standard output alone, and these lines to standard error.
+
+With --names a name is next to its number: in the table 1001 [Bus 12], in CSV and JSON as source_name, target_name, carrier_name and joined_names after the
+other columns.
 
 The tool copies the file while it has SQLite's lock of readers, and writes nothing next to it. It needs the right to read the file, as root or the
 controller's user has it.

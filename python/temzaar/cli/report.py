@@ -5,11 +5,12 @@
     report --site site.toml --names names.csv --out day.html      with occupancy, and with names
     report --slots 7 --limit 10 --format csv        for a spreadsheet
 
-It has the traffic of each hour in Erlang and the busy hour; for how long calls waited, and which
-share for longer than a limit; refused requests by their reason; the ten busiest talkgroups and
-radios; radios that were registered and never called; times for which carriers were lost, or nothing
-was recorded; and operators' commands. If it knows the number of slots for calls, it also has their
-occupancy, and what one slot fewer, one more and two more would change, by Erlang C.
+It has the traffic of each hour in Erlang, and the busy hour. It says for how long calls waited, and
+which share for longer than a limit. Then come refused requests by their reason, the ten busiest
+talkgroups and radios, and radios that were registered and never called. Last are the times for which
+carriers were lost, or nothing was recorded, and operators' commands. If it knows the number of slots
+for calls, it also has their occupancy, and what one slot fewer, one more and two more would change,
+by Erlang C.
 
 --from and --to take times of the machine's zone, as `callbook` does: 2026-11-27, 2026-11-27 08:00,
 08:00, which is today, and -2h. Without both the report is that of yesterday, and with a day as
@@ -46,7 +47,7 @@ from temzaar.sitefile import read_plan
 from temzaar.traffic import SlotKey, read_traffic
 
 NAME = "report"
-# Seconds that a call may wait, if no limit is given.
+# Seconds that a call may wait, if no limit is named.
 USUAL_LIMIT = 5.0
 MOST_SLOTS, MOST_DAYS = 31, 366
 # The owner writes a page, and the group reads it.

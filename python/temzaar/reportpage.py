@@ -72,9 +72,14 @@ td.number { white-space: nowrap; }
 .heat-5 { background: var(--heat-5); color: var(--heat-light); }
 .heat-6 { background: var(--heat-6); color: var(--heat-light); }
 .heat .busy { outline: 2px solid var(--text); outline-offset: -2px; font-weight: 700; }
+@media screen and (max-width: 1000px) {
+  main { columns: 1; }
+}
 @media screen and (max-width: 800px) {
-  main { columns: 1; padding: 0.6rem; }
+  main { padding: 0.6rem; }
   dl { padding: 0 0.6rem; }
+  /* if names are so wide that their table does not fit, it moves, and not the page */
+  section { overflow-x: auto; }
   th, td { padding-right: 0.4rem; font-size: 0.9rem; }
   td.bar, th.bar, .heat td:empty { display: none; }
   .heat thead { display: none; }

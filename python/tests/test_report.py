@@ -20,6 +20,7 @@ from temzaar.moments import MomentFault, Span, milliseconds_of
 from temzaar.records import opened_records
 from temzaar.report import Asked, heat_of, heat_text, make_report
 from temzaar.traffic import EARLIER, HOUR_MS, LATER, NOTHING, Traffic, hours_of, read_traffic
+from tests.browser import Chromium, find_chromium
 from tests.made_records import NOON, TERMS, insert, make_records, zone
 from tests.support import TWO_CARRIERS, call_tool
 
@@ -437,6 +438,26 @@ class OnThePage(ReportCase):
     def test_words(self) -> None:
         for words in (("--slots", "0"), ("--slots", "32"), ("--slots", "3", "--site", TWO_CARRIERS), ("--out", "x", "--format", "csv"), ("--limit", "0"), ("--format", "html")):
             self.assertEqual(call_tool(command.main, *words).returncode, 2, words)
+
+
+class InABrowser(ReportCase):
+    """The page as Chromium shows it."""
+
+    def test_widths(self) -> None:
+        """It fits from a phone to a wide screen, also with long names, and asks for nothing but
+        itself."""
+        self.make_day()
+        names = self.folder / "names.csv"
+        names.write_text("".join(f"{kind},{'W' * 40}\n" for kind in ("radio,1001", "radio,1006", "talkgroup,91", "carrier,1")), encoding="utf-8")
+        self.page("--names", str(names), "--slots", "3")
+        browser = Chromium(find_chromium())
+        self.addCleanup(browser.close)
+        url = (self.folder / "day.html").as_uri()
+        for width in (320, 390, 801, 1280):
+            for dark in (False, True):
+                browser.open(url, width, dark=dark)
+                self.assertLessEqual(browser.evaluate("document.documentElement.scrollWidth"), width)
+        self.assertEqual((set(browser.requested()), browser.complaints()), ({url}, []))
 
 
 class Large(ReportCase):

@@ -324,7 +324,8 @@ def raise_tables(conn: sqlite3.Connection) -> None:
 def table_texts(conn: sqlite3.Connection) -> list[tuple[str, str]]:
     """The tables of the controller's file, each with the statement that makes it."""
     query = "SELECT name, sql FROM site.sqlite_schema WHERE type = 'table' ORDER BY rowid"
-    return conn.execute(query).fetchall()
+    found: list[tuple[str, str]] = conn.execute(query).fetchall()
+    return found
 
 
 def make_tables(conn: sqlite3.Connection) -> None:

@@ -188,14 +188,13 @@ def hours_sheet(traffic: Traffic, asked: Asked) -> Sheet:
     for it in traffic.hours:
         occupancy = None if it.erlang is None else percent(it.erlang, asked.slots or 0)
         calls = it.calls if it.recorded_ms else None
-        row = [iso_text(it.begins_ms), it.erlang, calls, it.recorded_ms / MINUTE_MS]
-        rows.append([*row, occupancy] if asked.slots else row)
+        rows.append([iso_text(it.begins_ms), it.erlang, calls, it.recorded_ms / MINUTE_MS,
+                     *([occupancy] if asked.slots else [])])
     if asked.slots:
         columns.append(Column("occupancy", "%", SHARE))
-        notes = ()
-    else:
-        notes = ("For the occupancy of slots, and for what more slots would change, give their "
-                 "number: --slots N, or --site FILE.",)
+    notes = () if asked.slots else (
+        "For the occupancy of slots, and for what more slots would change, give their number: "
+        "--slots N, or --site FILE.",)
     return Sheet(HOURS, "Traffic by hour, Erlang", columns, rows, notes)
 
 

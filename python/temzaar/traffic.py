@@ -139,7 +139,8 @@ def kept_since(records: Records, table: str, column: str) -> int:
         return 0
     row = records.conn.execute(f"SELECT number, {column}, (SELECT max({table}) FROM removed)"
                                f" FROM {table} ORDER BY number LIMIT 1").fetchone()
-    return row[1] if row and row[2] and 0 < row[0] - 1 <= row[2] else 0
+    since: int = row[1] if row and row[2] and 0 < row[0] - 1 <= row[2] else 0
+    return since
 
 
 def unrecorded(records: Records, span: Span) -> list[Gap]:
@@ -261,10 +262,12 @@ def find_outages(records: Records, span: Span) -> Iterator[Outage]:
 def carrier_changes(records: Records, end_ms: int) -> list[tuple[int, int | None, bool]]:
     """When carriers were lost or came back, before a time: which one, and whether it came back. A
     start of the controller has no carrier."""
-    starts = ("SELECT ended_ms - ticks * tick_ms AS began_ms FROM terms"
-              " WHERE last_tick = ticks AND began_ms < ?")
+    query = "SELECT ended_ms - ticks * tick_ms FROM terms WHERE last_tick = ticks"
+    starts = {row[0] for row in records.conn.execute(query)}
+    # of a run whose first term is not recorded
+    starts |= {it.to_ms for it in find_gaps(records) if it.why == RESTARTED}
     found: list[tuple[int, int | None, bool]] = [
-        (began_ms, None, False) for began_ms, in records.conn.execute(starts, [end_ms])]
+        (it, None, False) for it in starts if it < end_ms]
     kinds = f"kind IN ({', '.join('?' * len(CARRIERS))}) AND at_ms < ?"
     for row in records.events((kinds, [*CARRIERS, end_ms])):
         event = event_of(row)

@@ -270,6 +270,10 @@ class NotKnown(ReportCase):
         self.assertEqual(found["unrecorded"], {"2026-11-27 10:15:00": ["2026-11-27 10:45:00", "30.0", "the controller was started again"]})
         self.assertEqual(found["outages"], {"2026-11-27 10:45:00": ["2026-11-27 10:50:00", "1", "5.0", "the controller was started again"]})
         self.assertIn("not recorded       30 min 0 s\n", self.run_tool())
+        # the first 500 ticks of that run are not recorded
+        with contextlib.closing(sqlite3.connect(self.path)) as conn, conn:
+            conn.execute("UPDATE terms SET last_tick = last_tick + 500 WHERE number = 2")
+        self.assertEqual([it.from_ms for it in self.traffic().outages], [at("10:45")])
 
     def test_the_ends_of_the_records(self) -> None:
         """From 6:00 to 18:30: other hours are not 0. Of the last one half an hour is recorded, and

@@ -20,6 +20,7 @@ help: ## this list
 	@echo "tools/siteview       a live picture of a served site"
 	@echo "tools/timeline       an SVG of a replay"
 	@echo "tools/callbook       prints the calls that a controller recorded"
+	@echo "tools/report         says how busy a site was, as a page, text and CSV"
 	@echo "tools/archive        keeps what a controller recorded, in a file for each month"
 	@echo "tools/carriers       plays carriers and radios against a served site"
 	@echo "tools/conform        judges the link client of a base station by the table of docs/LINK.md"
@@ -173,7 +174,7 @@ install: build/dmr_trunk build/dmr_decode ## the programs, tools, headers for ba
 	install -m 644 python/temzaar/cli/*.py $(DESTDIR)$(PYTHON_LIB)/temzaar/cli
 	install -m 644 python/temzaar/hub/*.py $(DESTDIR)$(PYTHON_LIB)/temzaar/hub
 	install -m 644 python/temzaar/hub/page/* $(DESTDIR)$(PYTHON_LIB)/temzaar/hub/page
-	for tool in siteview timeline callbook archive carriers conform check restart hub console; do sed -e "s|@TOOL@|$$tool|" -e 's|@PYTHON_LIB@|$(PYTHON_LIB)|' python/launcher.in >$(DESTDIR)$(PREFIX)/bin/dmr_$$tool && chmod 755 $(DESTDIR)$(PREFIX)/bin/dmr_$$tool || exit; done
+	for tool in siteview timeline callbook report archive carriers conform check restart hub console; do sed -e "s|@TOOL@|$$tool|" -e 's|@PYTHON_LIB@|$(PYTHON_LIB)|' python/launcher.in >$(DESTDIR)$(PREFIX)/bin/dmr_$$tool && chmod 755 $(DESTDIR)$(PREFIX)/bin/dmr_$$tool || exit; done
 	python3 ci/write-manual --prefix $(PREFIX) $(DESTDIR)$(MAN)
 	install -d $(DESTDIR)$(PREFIX)/include/dmr_trunk $(DESTDIR)$(DOC)/examples/station
 	install -m 644 station/*.h $(DESTDIR)$(PREFIX)/include/dmr_trunk
@@ -181,7 +182,7 @@ install: build/dmr_trunk build/dmr_decode ## the programs, tools, headers for ba
 	install -D -m 644 deploy/wireshark/dmr_link.lua $(DESTDIR)$(WIRESHARK_PLUGINS)/dmr_link.lua
 	ln -sf ../man8/dmr_trunk.8 $(DESTDIR)$(MAN)/man1/dmr_trunk.1
 	install -D -m 644 deploy/completion/dmr.bash $(DESTDIR)$(COMPLETIONS)/dmr_trunk
-	for command in decode siteview timeline callbook archive carriers conform check restart hub console; do ln -sf dmr_trunk $(DESTDIR)$(COMPLETIONS)/dmr_$$command || exit; done
+	for command in decode siteview timeline callbook report archive carriers conform check restart hub console; do ln -sf dmr_trunk $(DESTDIR)$(COMPLETIONS)/dmr_$$command || exit; done
 	for unit in dmr_trunk dmr_hub dmr_trunk@ dmr_hub@; do sed 's|@PREFIX@|$(PREFIX)|' deploy/$$unit.service >$(DESTDIR)$(PREFIX)/lib/systemd/system/$$unit.service || exit; done
 	sed 's|@PREFIX@|$(PREFIX)|' deploy/dmr_archive.service >$(DESTDIR)$(PREFIX)/lib/systemd/system/dmr_archive.service
 	install -m 644 deploy/dmr_archive.timer $(DESTDIR)$(PREFIX)/lib/systemd/system/dmr_archive.timer

@@ -8,6 +8,7 @@ _dmr_options() {
         dmr_siteview) echo --site --hub --console --name --names --once --every --version --help ;;
         dmr_timeline) echo --site --script --printed --program --out --records --start --from --to --page --calls --names --version --help ;;
         dmr_callbook) echo --records --format --radio --group --carrier --cause --from --to --last --names --seconds --version --help ;;
+        dmr_report) echo --records --from --to --limit --slots --site --names --out --format --seconds --version --help ;;
         dmr_archive) echo --records --folder --older-days --keep-days --seconds --version --help ;;
         dmr_carriers) echo --site --program --pid --port --carriers --link-version --radios --seconds --polls --fast --seed --faults --troubles --version --help ;;
         dmr_conform) echo --site --program --link-version --row --wait --json --version --help ;;
@@ -56,7 +57,7 @@ _dmr() {
             mapfile -t COMPREPLY < <(compgen -W "$rows" -- "$word")
             ;;
         --calls) mapfile -t COMPREPLY < <(compgen -W "text csv json" -- "$word") ;;
-        --terms | --wait | --every | --seconds | --polls | --seed | --radios | --carriers | --port | --pid | --page | --troubles | --start | --from | --to | --tcp | --console | --radio | --group | --carrier | --last | --older-days | --keep-days | --within | --back | --calls-an-hour | --share) COMPREPLY=() ;;
+        --terms | --wait | --every | --seconds | --polls | --seed | --radios | --carriers | --port | --pid | --page | --troubles | --start | --from | --to | --tcp | --console | --radio | --group | --carrier | --last | --older-days | --keep-days | --within | --back | --calls-an-hour | --share | --limit | --slots) COMPREPLY=() ;;
         *)
             if [ "$command" = dmr_check ] && [ "${word#-}" = "$word" ]; then
                 _dmr_files toml "$word"
@@ -67,4 +68,4 @@ _dmr() {
     esac
 }
 
-complete -F _dmr dmr_trunk dmr_decode dmr_siteview dmr_timeline dmr_callbook dmr_archive dmr_carriers dmr_conform dmr_check dmr_restart dmr_hub dmr_console
+complete -F _dmr dmr_trunk dmr_decode dmr_siteview dmr_timeline dmr_callbook dmr_report dmr_archive dmr_carriers dmr_conform dmr_check dmr_restart dmr_hub dmr_console

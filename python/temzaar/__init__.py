@@ -4,7 +4,7 @@ They also judge the clients of its base stations.
 The package reads and writes the formats of `docs/FORMATS.md`. It is written from the documents alone, apart from the controller's code, so a
 comparison of the two means something. One module per subject, lowest first:
 
-    printable   text that came from outside, as a terminal or a spreadsheet may show it
+    printable   text that came from outside, as a terminal or a spreadsheet may show it, and tables of it
     version     the version of this program
     faults      the fault that a tool reports in a line, and files that are read with a limit
     names       the names of radios, talkgroups and carriers, and how one is shown next to its number
@@ -17,7 +17,7 @@ comparison of the two means something. One module per subject, lowest first:
     sitefigures  what a site file amounts to: times in seconds, and counts
     siterisks   what is risky in a site file
     namerisks   what is risky in a file of names
-    erlang      how many carriers a site needs
+    erlang      how many slots a site needs
     sitereport  what a check of a site file prints
     script      scripts and printed replays
     console     an operator's console
@@ -34,6 +34,9 @@ comparison of the two means something. One module per subject, lowest first:
     archive     a file of records for each month
     recordgaps  the times of which a file of records has nothing
     recordsheet the calls of a file of records as a table, CSV and JSON
+    traffic     the figures of a period of a file of records: how busy the site was
+    report      what a report says of them, as text, CSV and JSON
+    reportpage  the report as a page
     recordsession a period of a file of records as a session that can be drawn
     player      the play of a site's carriers and radios
     trouble     the same with connections that break, stall and misbehave
@@ -41,5 +44,5 @@ comparison of the two means something. One module per subject, lowest first:
     hub         a service that holds the console and serves many who ask
     hubconsole  a connection to the hub, and what its lines may be completed to
     plannedstop what a planned stop of the controller waits for, and what it loses
-    cli         the commands: siteview, timeline, callbook, archive, carriers, conform, check, restart, hub, console
+    cli         the commands: siteview, timeline, callbook, report, archive, carriers, conform, check, restart, hub, console
 """

@@ -5,8 +5,9 @@ ended. The controller's file is read from a copy, and never changed. A month's f
 transaction, under SQLite's exclusive lock, as the controller's own file does. So other tools read
 it as that one.
 
-A month has a second file if the first does not fit. Either its tables are others, or its rows are
-not the controller's: a new file of the controller has numbers from 1 on again.
+A file gets the tables of the newest version that it was given rows of. A month has a second file
+if the first does not fit. Either its tables are others, or its rows are not the controller's: a new
+file of the controller has numbers from 1 on again.
 """
 import contextlib
 import fcntl
@@ -19,14 +20,16 @@ from datetime import UTC, datetime
 from typing import NamedTuple
 
 from temzaar.faults import system_fault
-from temzaar.moments import milliseconds_of
-from temzaar.records import LOCK_SECONDS, LOG, Records, RecordsFault
+from temzaar.moments import Span, milliseconds_of
+from temzaar.records import LOCK_SECONDS, LOG, Records, RecordsFault, within
 
 # The folder of the months' files, if the systemd unit runs.
 DEFAULT_FOLDER = "/var/lib/dmr_archive"
 DAY_MS = 86_400_000
-# The tables that are archived, each with the column that has a row's time.
+# The tables that are archived, each with the column that has a row's time; and those whose rows
+# belong to a term, by their column `term`.
 TIMES = {"calls": "began_ms", "events": "at_ms", "terms": "ended_ms"}
+OF_TERMS = ("carriers",)
 # What a file of records has and an archive does not: who is registered now.
 LEFT_EMPTY = ("registrations",)
 # The owner writes a file of the archive, and the group reads it.
@@ -45,12 +48,6 @@ class MonthFile(NamedTuple):
     def name(self) -> str:
         """The name of the file."""
         return f"{self.month}.db" if self.turn == 1 else f"{self.month}.{self.turn}.db"
-
-
-class Span(NamedTuple):
-    """A time from one millisecond on, up to another that is not in it."""
-    first: int
-    end: int
 
 
 @dataclass
@@ -83,11 +80,6 @@ def month_span(month: str) -> Span:
     # the calendar ends with the year 9999
     end = datetime(*ends, 1, tzinfo=UTC) if ends[0] < 10000 else datetime.max.replace(tzinfo=UTC)
     return Span(milliseconds_of(begins), milliseconds_of(end))
-
-
-def within(table: str, span: Span) -> tuple[str, list[int]]:
-    """The condition that a row of a table is of a time."""
-    return f"{TIMES[table]} >= ? AND {TIMES[table]} < ?", [*span]
 
 
 class Archive:
@@ -189,6 +181,9 @@ class Archive:
             if any(count_rows(conn, table, old) for table in tables):
                 with transaction(conn):
                     change.removed = {table: remove_rows(conn, table, old) for table in tables}
+                    for table in of_terms(conn, "main"):
+                        conn.execute(f"DELETE FROM {table}"
+                                     " WHERE term NOT IN (SELECT number FROM terms)")
             change.is_gone = not any(newest_number(conn, "main", table) for table in tables)
         if change.is_gone:
             remove_file(self.path(file))
@@ -261,21 +256,28 @@ def newest_number(conn: sqlite3.Connection, schema: str, table: str) -> int | No
     return number
 
 
-def versions(conn: sqlite3.Connection, schema: str) -> list[tuple[int]]:
+def version(conn: sqlite3.Connection, schema: str) -> int:
     """The version of the tables."""
-    return conn.execute(f"SELECT version FROM {schema}.schema_version").fetchall()
+    number: int = conn.execute(f"SELECT max(version) FROM {schema}.schema_version").fetchone()[0]
+    return number
+
+
+def of_terms(conn: sqlite3.Connection, schema: str) -> list[str]:
+    """The tables of a database whose rows belong to a term."""
+    return [it for it in OF_TERMS if it in table_names(conn, schema)]
 
 
 def fits(conn: sqlite3.Connection) -> bool:
-    """Whether a file can have rows of the controller's file: it is empty, or has the same tables,
-    and its rows from the controller's oldest on are the controller's."""
+    """Whether a file can have rows of the controller's file. It is empty, or has the same tables or
+    those of an earlier version. Its rows from the controller's oldest on are the controller's."""
     if not table_names(conn, "main"):
         return True
-    if versions(conn, "main") != versions(conn, "site"):
+    is_older = version(conn, "main") < version(conn, "site")
+    if version(conn, "main") > version(conn, "site"):
         return False
     for table in TIMES:
-        names = columns(conn, "site", table)
-        if columns(conn, "main", table) != names:
+        names, of_site = (columns(conn, schema, table) for schema in ("main", "site"))
+        if not (set(names) <= set(of_site) if is_older else names == of_site):
             return False
         listed = ", ".join(names)
         oldest = f"(SELECT min(number) FROM site.{table})"
@@ -294,18 +296,45 @@ def add_rows(conn: sqlite3.Connection, change: Change, span: Span) -> Change | N
     with transaction(conn):
         if is_new:
             make_tables(conn)
+        elif version(conn, "main") < version(conn, "site"):
+            raise_tables(conn)
         change.added = {table: copy_rows(conn, table, span) for table in TIMES}
+        for table in of_terms(conn, "site"):
+            listed = ", ".join(columns(conn, "site", table))
+            conn.execute(f"INSERT OR IGNORE INTO main.{table} ({listed}) SELECT {listed}"
+                         f" FROM site.{table} WHERE term IN (SELECT number FROM main.terms)")
     return change
+
+
+def raise_tables(conn: sqlite3.Connection) -> None:
+    """Makes the tables of a file of an earlier version those of the controller's file, as the
+    controller does. What its rows do not say is NULL."""
+    for table in TIMES:
+        there = columns(conn, "main", table)
+        for row in conn.execute(f"PRAGMA site.table_info({table})").fetchall():
+            if quoted(row[1]) not in there:
+                conn.execute(f"ALTER TABLE main.{table} ADD COLUMN {quoted(row[1])} {row[2]}")
+    for name, text in table_texts(conn):
+        if name not in table_names(conn, "main"):
+            conn.execute(text)
+    conn.execute("UPDATE main.schema_version SET version ="
+                 " (SELECT max(version) FROM site.schema_version)")
+
+
+def table_texts(conn: sqlite3.Connection) -> list[tuple[str, str]]:
+    """The tables of the controller's file, each with the statement that makes it."""
+    query = "SELECT name, sql FROM site.sqlite_schema WHERE type = 'table' ORDER BY rowid"
+    found: list[tuple[str, str]] = conn.execute(query).fetchall()
+    return found
 
 
 def make_tables(conn: sqlite3.Connection) -> None:
     """Makes the tables that the controller's file has."""
-    texts = conn.execute("SELECT sql FROM site.sqlite_schema WHERE type = 'table'").fetchall()
-    for (text,) in texts:
+    for name, text in table_texts(conn):
         conn.execute(text)
-    for table in table_names(conn, "site"):
-        if table not in TIMES and table not in LEFT_EMPTY:
-            conn.execute(f"INSERT INTO main.{quoted(table)} SELECT * FROM site.{quoted(table)}")
+        if name not in TIMES and name not in LEFT_EMPTY and name not in OF_TERMS:
+            table = quoted(name)
+            conn.execute(f"INSERT INTO main.{table} SELECT * FROM site.{table}")
 
 
 # Of a row of the controller's file: the month's file does not have it.
@@ -315,7 +344,7 @@ NOT_THERE = "number NOT IN (SELECT number FROM main.{table})"
 def count_rows(conn: sqlite3.Connection, table: str, span: Span, schema: str = "main",
                more: str = "1") -> int:
     """How many rows of a table are of a span, and meet another condition."""
-    condition, values = within(table, span)
+    condition, values = within(TIMES[table], span)
     rows = f"{schema}.{table} WHERE {condition} AND {more.format(table=table)}"
     count: int = conn.execute(f"SELECT count(*) FROM {rows}", values).fetchone()[0]
     return count
@@ -323,7 +352,7 @@ def count_rows(conn: sqlite3.Connection, table: str, span: Span, schema: str = "
 
 def copy_rows(conn: sqlite3.Connection, table: str, span: Span) -> int:
     """Copies the rows of a span that are not there. How many they are."""
-    condition, values = within(table, span)
+    condition, values = within(TIMES[table], span)
     listed = ", ".join(columns(conn, "site", table))
     return conn.execute(f"INSERT INTO main.{table} ({listed}) SELECT {listed} FROM site.{table}"
                         f" WHERE {condition} AND {NOT_THERE.format(table=table)}", values).rowcount
@@ -331,7 +360,7 @@ def copy_rows(conn: sqlite3.Connection, table: str, span: Span) -> int:
 
 def remove_rows(conn: sqlite3.Connection, table: str, span: Span) -> int:
     """Removes the rows of a span. How many they were."""
-    condition, values = within(table, span)
+    condition, values = within(TIMES[table], span)
     return conn.execute(f"DELETE FROM {table} WHERE {condition}", values).rowcount
 
 
@@ -339,7 +368,7 @@ def months_of(records: Records, span: Span) -> list[str]:
     """The months that have rows of a span, oldest first."""
     found: set[str] = set()
     for table, column in TIMES.items():
-        condition, values = within(table, span)
+        condition, values = within(column, span)
         month = f"strftime('%Y-%m', {column} / 1000, 'unixepoch')"
         query = f"SELECT DISTINCT {month} FROM {table} WHERE {condition}"
         found |= {row[0] for row in records.conn.execute(query, values)}

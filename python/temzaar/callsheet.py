@@ -1,13 +1,11 @@
 """The list of calls as text, CSV and JSON."""
-import csv
-import io
 import json
 from enum import Enum
 
 from temzaar.calls import CallRecord
 from temzaar.clock import Clock, Window
 from temzaar.names import CALL_FIELDS, NAME_COLUMNS, NO_NAMES, Kind, Names, called_kind, named
-from temzaar.printable import columns_of, padded, safe_cell
+from temzaar.printable import csv_text, text_table
 
 COLUMNS = ("begun", "ended", "begun_time", "ended_time", "carrier", "slot", "kind", "source", "target", "cause", "waited_ticks", "waited_seconds")
 
@@ -48,22 +46,12 @@ def text_cells(record: CallRecord, clock: Clock, names: Names) -> list[str]:
     return [at(record.begun), at(record.ended), slot, record.kind, source, target, waited, record.cause.value]
 
 
-def text_table(records: list[CallRecord], clock: Clock, names: Names) -> str:
-    """The list as a table for people."""
-    rows = [["begun", "ended", "slot", "kind", "source", "target", "waited", "cause of the end"], *(text_cells(it, clock, names) for it in records)]
-    widths = [max(columns_of(row[n]) for row in rows) for n in range(len(rows[0]))]
-    return "".join("  ".join(map(padded, row, widths)).rstrip() + "\n" for row in rows)
-
-
 def write_list(records: list[CallRecord], clock: Clock, form: ListFormat, names: Names | None = None) -> str:
     """The list of calls in a format, with their names if there are any."""
     if form is ListFormat.TEXT:
-        return text_table(records, clock, names or NO_NAMES)
+        head = ["begun", "ended", "slot", "kind", "source", "target", "waited", "cause of the end"]
+        return text_table([head, *(text_cells(it, clock, names or NO_NAMES) for it in records)], [False] * len(head))
     rows = [call_row(it, clock, names) for it in records]
     if form is ListFormat.JSON:
         return json.dumps(rows, indent=2) + "\n"
-    out = io.StringIO(newline="")
-    writer = csv.DictWriter(out, COLUMNS if names is None else (*COLUMNS, *CALL_FIELDS), lineterminator="\n")
-    writer.writeheader()
-    writer.writerows({name: safe_cell(value) for name, value in row.items()} for row in rows)
-    return out.getvalue()
+    return csv_text(rows, COLUMNS if names is None else (*COLUMNS, *CALL_FIELDS))

@@ -1,4 +1,4 @@
-"""How many carriers a site needs, by Erlang C: requests that wait for a free slot, in their order.
+"""How many slots a site needs, by Erlang C: requests that wait for a free slot, in their order.
 
 The formula holds if requests come independently of each other (Poisson arrivals). Most calls are
 short, and a few long (exponential durations). Nobody leaves the queue.
@@ -50,28 +50,31 @@ class Demand:
 
 @dataclass(frozen=True)
 class Service:
-    """What a demand meets at a site: its carriers and slots for calls, and the shares of calls that
-    wait, and that wait too long. Then the mean wait of all calls, in seconds."""
-    carriers: int
+    """What a demand meets at a site: its slots for calls, and the shares of calls that wait, and
+    that wait too long. Then the mean wait of all calls, in seconds."""
     slots: int
     waiting: float
     too_long: float
     mean_wait: float
 
     @classmethod
-    def of(cls, demand: Demand, carriers: int) -> "Service":
-        """The service of this many carriers. One slot is the control channel."""
-        slots = SLOTS * carriers - 1
+    def of(cls, demand: Demand, slots: int) -> "Service":
+        """The service of this many slots."""
         waiting, spare = waiting_share(slots, demand.erlang), slots - demand.erlang
         if spare <= 0:
-            return cls(carriers, slots, 1.0, 1.0, math.inf)
+            return cls(slots, 1.0, 1.0, math.inf)
         too_long = waiting * math.exp(-spare * demand.wait / demand.seconds)
-        return cls(carriers, slots, waiting, too_long, waiting * demand.seconds / spare)
+        return cls(slots, waiting, too_long, waiting * demand.seconds / spare)
+
+    @property
+    def carriers(self) -> int:
+        """The carriers with these slots for calls, and one more slot for the control channel."""
+        return (self.slots + 1) // SLOTS
 
     def as_json(self) -> dict[str, object]:
         """The service for machines. A wait without end is null."""
         wait = None if math.isinf(self.mean_wait) else self.mean_wait
-        return dataclasses.asdict(self) | {"mean_wait": wait}
+        return {"carriers": self.carriers} | dataclasses.asdict(self) | {"mean_wait": wait}
 
 
 @dataclass(frozen=True)
@@ -84,7 +87,7 @@ class Plan:
     @classmethod
     def of(cls, demand: Demand) -> "Plan":
         """The plan for a demand. None is chosen if a site cannot have as many carriers."""
-        services = [Service.of(demand, it) for it in range(1, MOST_CARRIERS + 1)]
+        services = [Service.of(demand, SLOTS * it - 1) for it in range(1, MOST_CARRIERS + 1)]
         enough = (it for it in services if it.too_long <= demand.share)
         return cls(demand, services, next(enough, None))
 

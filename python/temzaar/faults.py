@@ -1,5 +1,8 @@
 """The fault that every tool reports in one line, and files that are read with a limit."""
+import contextlib
 import os
+import stat
+import tempfile
 
 # The most octets of a text file that a tool reads: a script of a day of sixteen busy carriers has fewer.
 MOST_OCTETS = 1 << 28
@@ -57,3 +60,26 @@ def write_text(path: str, text: str) -> None:
             it.write(text)
     except OSError as fault:
         raise system_fault(path, fault) from fault
+
+
+def replace_text(path: str, text: str, mode: int) -> None:
+    """Writes a text file with this mode, in place of one that may exist: a reader has all of the one or of the other. ToolFault: it cannot be written, or there is
+    something there that is not a file."""
+    target = os.path.realpath(path)
+    try:
+        if os.path.exists(target) and not stat.S_ISREG(os.stat(target).st_mode):
+            raise ToolFault(f"{path}: not a file")
+        descriptor, made = tempfile.mkstemp(prefix=".dmr_", dir=os.path.dirname(target))
+        try:
+            with open(descriptor, "w", encoding="utf-8", newline="") as it:
+                it.write(text)
+                os.fchmod(descriptor, mode)
+            os.replace(made, target)
+        except BaseException:
+            with contextlib.suppress(OSError):
+                os.unlink(made)
+            raise
+    except OSError as fault:
+        raise system_fault(path, fault) from fault
+    except ValueError as fault:
+        raise ToolFault(f"{path!r}: {fault}") from fault

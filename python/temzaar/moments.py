@@ -1,6 +1,7 @@
 """Moments that people write and read: dates and times of the machine's zone, and times before now; as numbers, milliseconds since 1970."""
 import re
 from datetime import UTC, date, datetime, time, timedelta
+from typing import NamedTuple
 
 from temzaar.faults import ToolFault
 
@@ -13,6 +14,12 @@ UNITS = {"s": timedelta(seconds=1), "m": timedelta(minutes=1), "h": timedelta(ho
 RELATIVE = re.compile(r"-(\d{1,6})([smhd])", re.ASCII)
 DAY = re.compile(r"\d{4}-\d\d-\d\d", re.ASCII)
 FORMS = "2026-11-27, 2026-11-27 08:00, 08:00 (today), or -2h (also s, m and d)"
+
+
+class Span(NamedTuple):
+    """A time from one millisecond on, up to another that is not in it."""
+    first: int
+    end: int
 
 
 class MomentFault(ToolFault):

@@ -59,7 +59,7 @@ def newest_term(path: str) -> RecordedTerm | None:
     """The newest term of a file of records; None if there is none yet. RecordsFault: the file
     cannot be read."""
     with opened_records(path) as records:
-        return next(iter(records.terms(("number = (SELECT max(number) FROM terms)", []))), None)
+        return records.last_term()
 
 
 def wait_for_term(path: str, after: RecordedTerm | None, seconds: float) -> RecordedTerm | None:

@@ -1,5 +1,9 @@
-"""Text that came from outside, as a terminal or a spreadsheet may show it; and how many columns of a terminal it takes."""
+"""Text that came from outside, as a terminal or a spreadsheet may show it; how many columns of a terminal it takes, and tables of it."""
+import csv
+import io
 import unicodedata
+from collections.abc import Iterable, Mapping, Sequence
+from typing import Any
 
 # What a cell of CSV begins with if a spreadsheet takes it for a formula.
 FORMULA = ("=", "+", "-", "@", "\t", "\r", "\n")
@@ -42,3 +46,29 @@ def cut_text(text: str, columns: int) -> str:
 def padded(text: str, columns: int) -> str:
     """A text with blanks after it up to a number of columns."""
     return text + " " * max(0, columns - columns_of(text))
+
+
+def text_table(rows: Sequence[Sequence[str]], is_right: Sequence[bool]) -> str:
+    """Rows as a table, a line each, with columns that are as wide as their widest cell; some of them end at the same place, as numbers do."""
+    widths = [max(columns_of(row[n]) for row in rows) for n in range(len(is_right))]
+
+    def line(row: Sequence[str]) -> str:
+        """A row."""
+        cells = (" " * (width - columns_of(cell)) + cell if right else padded(cell, width) for cell, width, right in zip(row, widths, is_right, strict=True))
+        return "  ".join(cells).rstrip()
+    return "".join(f"{line(row)}\n" for row in rows)
+
+
+def csv_row(row: Mapping[str, Any]) -> dict[str, Any]:
+    """The cells of a row in CSV. A list is a text with `; ` between its parts."""
+    cells = {name: "; ".join("" if it is None else str(it) for it in value) if isinstance(value, list) else value for name, value in row.items()}
+    return {name: safe_cell(value) for name, value in cells.items()}
+
+
+def csv_text(rows: Iterable[Mapping[str, Any]], columns: Sequence[str]) -> str:
+    """Rows as CSV, with a line of the names of the columns."""
+    out = io.StringIO(newline="")
+    writer = csv.DictWriter(out, columns, lineterminator="\n")
+    writer.writeheader()
+    writer.writerows(map(csv_row, rows))
+    return out.getvalue()

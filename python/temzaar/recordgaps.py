@@ -1,6 +1,8 @@
-"""The times of which a file of records has nothing: a run of the controller that ended within a term, and terms that were not written."""
-from collections.abc import Iterable
+"""The times of which a file of records has nothing: a run of the controller that ended within a term, and terms that were not written. And the times between them."""
+from collections.abc import Iterable, Iterator
 from dataclasses import dataclass
+from heapq import merge
+from typing import NamedTuple
 
 from temzaar.moments import short_text
 from temzaar.records import Records
@@ -40,3 +42,30 @@ def find_gaps(records: Records, since: int = 0) -> list[Gap]:
 def gaps_within(gaps: Iterable[Gap], from_ms: int | None, to_ms: int | None) -> list[Gap]:
     """The gaps that have a part between two times; None: from the first record, to the last one."""
     return [it for it in gaps if (from_ms is None or it.to_ms > from_ms) and (to_ms is None or it.from_ms < to_ms)]
+
+
+# A time at which the number of calls changes, and that of gaps that there are at the time: in milliseconds, and by how many there are more.
+Edge = tuple[int, int, int]
+
+
+class Piece(NamedTuple):
+    """A time, in milliseconds, in which a number of slots had a call."""
+    begins: int
+    ends: int
+    count: int
+
+
+def pieces(edges: Iterable[Edge], begins: int, ends: int) -> Iterator[Piece]:
+    """The recorded times within two in which the number of calls stays the same, in their order, by edges in the order of their times."""
+    count, hole, since = 0, 0, begins
+    for at, calls, gaps in merge(edges, [(ends, 0, 0)]):
+        if since < at and not hole:
+            yield Piece(since, min(at, ends), count)
+        if at >= ends:
+            return
+        count, hole, since = count + calls, hole + gaps, max(since, at)
+
+
+def edges_of(gaps: Iterable[Gap], shift_ms: int) -> list[Edge]:
+    """The beginnings and the ends of gaps, in the order of their times."""
+    return sorted(edge for gap in gaps for edge in ((gap.from_ms - shift_ms, 0, 1), (gap.to_ms - shift_ms, 0, -1)))

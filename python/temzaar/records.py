@@ -16,11 +16,13 @@ from dataclasses import dataclass, field
 from typing import Any
 
 from temzaar.faults import MOST_OCTETS, ToolFault
+from temzaar.moments import Span
 
 # The path of the file, if the systemd unit of the controller runs.
 DEFAULT_PATH = "/var/lib/dmr_trunk/site.db"
-# The greatest version of the tables that this module reads.
-VERSION = 1
+# The greatest version of the tables that this module reads, and the first one that says how long calls waited, and who joined them.
+VERSION = 2
+WITH_WAITS = 2
 # What every database of SQLite begins with, and the ending of its log's name.
 MAGIC, LOG = b"SQLite format 3\0", "-wal"
 # The octets of a database that SQLite locks: one that a writer takes first, and those that readers share.
@@ -54,9 +56,14 @@ def is_whole(value: object, least: int | None = None, most: int | None = None) -
     return isinstance(value, int) and (least is None or value >= least) and (most is None or value <= most)
 
 
+def within(column: str, span: Span) -> Where:
+    """The condition that the time of a row is within a span."""
+    return f"{column} >= ? AND {column} < ?", [*span]
+
+
 @dataclass(frozen=True)
 class RecordedCall:
-    """A row of `calls`. Times are in milliseconds since 1970."""
+    """A row of `calls`. Its times are ticks, and milliseconds since 1970. `waited` is for how many ticks its request waited for a slot; None if that is not known."""
     number: int
     term: int
     carrier: int
@@ -65,13 +72,24 @@ class RecordedCall:
     source: int
     target: int
     cause: str
+    began: int
+    ended: int
     began_ms: int
     ended_ms: int
+    waited: int | None
 
     @property
     def duration_ms(self) -> int:
         """How long the call lasted, in milliseconds."""
         return max(0, self.ended_ms - self.began_ms)
+
+    @property
+    def waited_ms(self) -> int | None:
+        """How long its request waited, in milliseconds, by the ticks of the call; None if that is not known."""
+        if not self.waited:
+            return self.waited
+        ticks = self.ended - self.began
+        return self.waited * (self.ended_ms - self.began_ms) // ticks if ticks > 0 else None
 
 
 @dataclass(frozen=True)
@@ -87,6 +105,7 @@ class RecordedEvent:
     channel: int | None
     reason: int | None
     reply: str | None
+    tick: int
     at_ms: int
 
 
@@ -113,8 +132,8 @@ class RecordedTerm:
 # The columns of `terms` that count something, and those of the other tables.
 COUNTS = ("entries", "heard", "requests", "noise", "active", "polls", "ticks", "commands", "grants", "late_entries", "registrations", "refusals", "begun", "ended", "most_lines")
 OF_TERMS = ("number", "ended_ms", "tick_ms", "last_tick", *COUNTS)
-OF_CALLS = ("number", "term", "carrier", "slot", "is_group", "source", "target", "cause", "began_ms", "ended_ms")
-OF_EVENTS = ("number", "term", "kind", "carrier", "slot", "radio", "target", "channel", "reason", "reply", "at_ms")
+OF_CALLS = ("number", "term", "carrier", "slot", "is_group", "source", "target", "cause", "began", "ended", "began_ms", "ended_ms")
+OF_EVENTS = ("number", "term", "kind", "carrier", "slot", "radio", "target", "channel", "reason", "reply", "tick", "at_ms")
 
 
 class Records:
@@ -131,7 +150,8 @@ class Records:
     def calls(self, where: Where = ("1", []), last: int | None = None) -> list[RecordedCall]:
         """Calls that meet a condition, in the order in which they ended; the last ones, if `last` says how many."""
         order = "number" if last is None else f"number DESC LIMIT {last}"
-        rows = [RecordedCall(*row[:4], bool(row[4]), *row[5:]) for row in self._rows("calls", OF_CALLS, where, order)]
+        columns = *OF_CALLS, "waited" if self.version() >= WITH_WAITS else "NULL"
+        rows = [RecordedCall(*row[:4], bool(row[4]), *row[5:]) for row in self._rows("calls", columns, where, order)]
         return rows if last is None else rows[::-1]
 
     def events(self, where: Where = ("1", []), last: int | None = None) -> list[RecordedEvent]:
@@ -144,17 +164,26 @@ class Records:
         """Terms that meet a condition, in their order."""
         return [RecordedTerm(*row[:4], dict(zip(COUNTS, row[4:], strict=True))) for row in self._rows("terms", OF_TERMS, where, "number")]
 
+    def last_term(self) -> RecordedTerm | None:
+        """The newest term; None if there is none."""
+        return next(iter(self.terms(("number = (SELECT max(number) FROM terms)", []))), None)
+
     def registrations(self) -> list[int]:
         """The radios that were registered at the end of the last term, in the order in which they joined."""
         return [row[0] for row in self.conn.execute("SELECT radio FROM registrations ORDER BY place")]
 
+    def version(self) -> int:
+        """The version of the tables; 0 if the file does not say."""
+        number: int | None = self.conn.execute("SELECT max(version) FROM schema_version").fetchone()[0]
+        return number or 0
+
     def require_version(self, path: str) -> None:
         """RecordsFault: the tables are of a later version, or are others."""
         tables = {row[0] for row in self.conn.execute("SELECT name FROM sqlite_schema WHERE type = 'table'")}
-        if not {"schema_version", "terms", "calls", "events", "registrations"} <= tables:
+        version = self.version() if "schema_version" in tables else 0
+        if version < 1 or not {"terms", "calls", "events", "registrations"} <= tables:
             raise RecordsFault(f"{path}: not a file of records")
-        version = self.conn.execute("SELECT max(version) FROM schema_version").fetchone()[0]
-        if version is None or version > VERSION:
+        if version > VERSION:
             raise RecordsFault(f"{path}: its tables are of version {version}, which is newer than this program's {VERSION}")
 
 

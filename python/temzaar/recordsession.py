@@ -18,11 +18,10 @@ from temzaar.printable import printable
 from temzaar.recordgaps import RESTARTED, Gap, find_gaps, gaps_within
 from temzaar.records import RecordedCall, RecordedEvent, RecordedTerm, RecordsFault, opened_records
 from temzaar.script import Event, Input
+from temzaar.siteevents import COMMANDS, line_of
 
 RADIO_EVENTS = {"joined": "was registered", "left": "left", "dropped": "was dropped by an operator"}
 CARRIER_EVENTS = {"came_up": "up", "was_lost": "lost"}
-# The words of an operator's line, by the kind of its event.
-COMMANDS = {"drop_command": ("drop", "radio"), "end_command": ("end", "carrier", "slot"), "move_command": ("move", "channel"), "stay_command": ("stay",)}
 # What comes first of what has the same time: the end of a carrier's calls is its loss.
 ORDER = ("ended", "lost", "stopped", "up", "radio", "said", "began")
 
@@ -129,10 +128,11 @@ def happening_of(event: RecordedEvent, names: Names) -> Happening | None:
         # the records do not say whether it was to a radio or to a talkgroup
         target = named(str(event.target), names.of_address(event.target))
         return Happening(event.at_ms, "radio", text=f"the request of {names.in_text(f'radio {event.radio}')} to {target} was refused: {reason}")
+    if event.kind == "joined_call":
+        joined = f"radio {event.radio} asked for the call of group {event.target}"
+        return Happening(event.at_ms, "radio", text=names.in_text(joined))
     if event.kind in COMMANDS:
-        command, *columns = COMMANDS[event.kind]
-        words = [command, *(str(getattr(event, column)) for column in columns)]
-        return Happening(event.at_ms, "said", text=f"{' '.join(words)}: {(event.reply or '').replace('_', ' ')}")
+        return Happening(event.at_ms, "said", text=f"{line_of(event)}: {(event.reply or '').replace('_', ' ')}")
     return None
 
 

@@ -1,23 +1,27 @@
-"""The calls of a file of records as a table, CSV and JSON; and which of them are asked for."""
-import csv
-import io
+"""The calls of a file of records as a table, CSV and JSON, with who joined them; and which of them are asked for."""
+import bisect
 import json
+from collections.abc import Mapping
 from dataclasses import dataclass
 from enum import Enum
 from typing import Any
 
 from temzaar.moments import iso_text, short_text
 from temzaar.names import CALL_FIELDS, NAME_COLUMNS, NO_NAMES, Kind, Names, called_kind, named
-from temzaar.printable import columns_of, padded, printable, safe_cell
+from temzaar.printable import csv_text, printable, text_table
 from temzaar.recordgaps import Gap
-from temzaar.records import RecordedCall, Where
+from temzaar.records import RecordedCall, RecordedEvent, Records, Where
 
-COLUMNS = ("number", "term", "began", "ended", "seconds", "carrier", "slot", "kind", "source", "target", "cause")
-TABLE = ("number", "began", "seconds", "slot", "kind", "source", "target", "cause")
+COLUMNS = ("number", "term", "began", "ended", "seconds", "carrier", "slot", "kind", "source", "target", "cause", "waited_seconds", "joined")
+TABLE = ("number", "began", "seconds", "waited", "slot", "kind", "source", "target", "cause", "joined")
 # The columns of the table that are numbers, which end at the same place.
-RIGHT = ("number", "seconds")
+RIGHT = ("number", "seconds", "waited")
+# What lists of calls have of the names of those that joined, after the other names.
+JOINED_NAMES = "joined_names"
 # The gaps that are listed: the newest.
 MOST_GAPS = 20
+# By how many milliseconds the times of one tick may differ in two terms, as ticks were late.
+LATE_MS = 60_000
 
 
 class SheetFormat(Enum):
@@ -46,11 +50,42 @@ class CallQuery:
         return " AND ".join(text for text, _, _ in asked) or "1", [value for _, value, count in asked for _ in range(count)]
 
 
-def call_row(call: RecordedCall, names: Names | None) -> dict[str, str | int | float | None]:
-    """The columns of a call. A time that the calendar does not have is None, as is a name that nothing has."""
+# The radios that joined calls, by the numbers of the calls. A call is not in it if that is not known.
+Joined = Mapping[int, list[int]]
+
+
+def who_joined(records: Records, calls: list[RecordedCall]) -> Joined:
+    """The radios that joined these calls, each in the order in which they first asked. The calls of a slot have no time in common."""
+    joined: dict[int, dict[int, None]] = {it.number: {} for it in calls if it.waited is not None}
+    by_slot: dict[tuple[int | None, int | None], list[RecordedCall]] = {}
+    for call in sorted(calls, key=lambda it: it.began_ms):
+        by_slot.setdefault((call.carrier, call.slot), []).append(call)
+    for event in records.events(("kind = 'joined_call'", [])) if joined else ():
+        of_slot = by_slot.get((event.carrier, event.slot), [])
+        at = bisect.bisect_right(of_slot, event.at_ms, key=lambda it: it.began_ms)
+        # the times of two terms may differ, so it may be a call next to that of the time
+        for call in of_slot[max(0, at - 2):at + 1]:
+            if call.number in joined and event.radio is not None and has_joined(event, call):
+                joined[call.number][event.radio] = None
+    return {number: [*radios] for number, radios in joined.items()}
+
+
+def has_joined(event: RecordedEvent, call: RecordedCall) -> bool:
+    """Whether an event of a slot is that a radio joined this call of the slot. The ticks say so, and the times that both are of one run of the controller."""
+    is_near = call.began_ms - LATE_MS <= event.at_ms <= call.ended_ms + LATE_MS
+    return is_near and event.target == call.target and event.term <= call.term and call.began <= event.tick <= call.ended
+
+
+def call_row(call: RecordedCall, joined: list[int] | None, names: Names | None) -> dict[str, Any]:
+    """The columns of a call. A time that the calendar does not have is None, as are a name that nothing has, and what is not known."""
+    waited = None if call.waited_ms is None else call.waited_ms / 1000
     row = {"number": call.number, "term": call.term, "began": iso_text(call.began_ms), "ended": iso_text(call.ended_ms), "seconds": call.duration_ms / 1000,
-            "carrier": call.carrier, "slot": call.slot, "kind": kind_of(call), "source": call.source, "target": call.target, "cause": call.cause}
-    return row if names is None else {**row, **names.of_call(called_kind(call.is_group), call.source, call.target, call.carrier)}
+           "carrier": call.carrier, "slot": call.slot, "kind": kind_of(call), "source": call.source, "target": call.target, "cause": call.cause,
+           "waited_seconds": waited, "joined": joined}
+    if names is None:
+        return row
+    of_joined = None if joined is None else [names.name_of(Kind.RADIO, it) for it in joined]
+    return {**row, **names.of_call(called_kind(call.is_group), call.source, call.target, call.carrier), JOINED_NAMES: of_joined}
 
 
 def kind_of(call: RecordedCall) -> str:
@@ -58,21 +93,14 @@ def kind_of(call: RecordedCall) -> str:
     return "talkgroup" if call.is_group else "individual"
 
 
-def table_cells(call: RecordedCall, names: Names) -> dict[str, str]:
-    """The cells of a call in the table."""
+def table_cells(call: RecordedCall, joined: list[int], names: Names) -> list[str]:
+    """The cells of a call in the table, by TABLE."""
     slot = named(f"{call.carrier}/{call.slot}", names.name_of(Kind.CARRIER, call.carrier), NAME_COLUMNS)
     source = names.label(Kind.RADIO, call.source, NAME_COLUMNS)
     target = names.label(called_kind(call.is_group), call.target, NAME_COLUMNS)
-    return {"number": str(call.number), "began": short_text(call.began_ms), "seconds": f"{call.duration_ms / 1000:.1f}", "slot": slot, "kind": kind_of(call),
-            "source": source, "target": target, "cause": printable(call.cause)}
-
-
-def text_table(calls: list[RecordedCall], names: Names) -> str:
-    """The calls as a table for people."""
-    rows = [dict(zip(TABLE, TABLE, strict=True)), *(table_cells(it, names) for it in calls)]
-    widths = {name: max(columns_of(row[name]) for row in rows) for name in TABLE}
-    lines = ["  ".join(row[name].rjust(widths[name]) if name in RIGHT else padded(row[name], widths[name]) for name in TABLE).rstrip() for row in rows]
-    return "".join(f"{line}\n" for line in lines)
+    waited = "" if call.waited_ms is None else f"{call.waited_ms / 1000:.1f}"
+    return [str(call.number), short_text(call.began_ms), f"{call.duration_ms / 1000:.1f}", waited, slot, kind_of(call), source, target, printable(call.cause),
+            ", ".join(names.label(Kind.RADIO, it, NAME_COLUMNS) for it in joined)]
 
 
 def lines_below(gaps: list[Gap], until_ms: int | None) -> list[str]:
@@ -83,19 +111,12 @@ def lines_below(gaps: list[Gap], until_ms: int | None) -> list[str]:
     return [*more, *(it.in_words() for it in gaps[-MOST_GAPS:]), f"recorded up to {short_text(until_ms)}; the term that is running is not in it"]
 
 
-def csv_text(calls: list[RecordedCall], names: Names | None) -> str:
-    """The calls as CSV, with a line of the names of the columns."""
-    out = io.StringIO(newline="")
-    writer = csv.DictWriter(out, COLUMNS if names is None else (*COLUMNS, *CALL_FIELDS), lineterminator="\n")
-    writer.writeheader()
-    writer.writerows({name: safe_cell(value) for name, value in call_row(it, names).items()} for it in calls)
-    return out.getvalue()
-
-
-def write_sheet(calls: list[RecordedCall], form: SheetFormat, names: Names | None = None) -> str:
+def write_sheet(calls: list[RecordedCall], joined: Joined, form: SheetFormat, names: Names | None = None) -> str:
     """The calls in a format, with their names if there are any."""
     if form is SheetFormat.TABLE:
-        return text_table(calls, names or NO_NAMES)
-    if form is SheetFormat.CSV:
-        return csv_text(calls, names)
-    return json.dumps([call_row(it, names) for it in calls], indent=2) + "\n"
+        cells = [table_cells(it, joined.get(it.number, []), names or NO_NAMES) for it in calls]
+        return text_table([[*TABLE], *cells], [it in RIGHT for it in TABLE])
+    rows = [call_row(it, joined.get(it.number), names) for it in calls]
+    if form is SheetFormat.JSON:
+        return json.dumps(rows, indent=2) + "\n"
+    return csv_text(rows, COLUMNS if names is None else (*COLUMNS, *CALL_FIELDS, JOINED_NAMES))

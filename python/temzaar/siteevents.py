@@ -1,6 +1,7 @@
 """What happened at a site, as a list for people: the events of a controller's file of records.
 
-An event has a time, a kind, what it is about, and a text. `recorded_events` reads those of a file.
+An event has a time, a kind, what it is about, and a text. `recorded_events` reads those of a file, without registrations and without the radios that joined a
+call, since there are many.
 The hub adds what it saw itself (`temzaar.hub.eventlog`), in the same form.
 """
 from collections.abc import Iterator
@@ -171,9 +172,13 @@ def event_of(row: RecordedEvent) -> SiteEvent:
     if row.kind in CARRIERS:
         require(row.carrier is not None, name, "it has no carrier")
         return SiteEvent(row.at_ms, CARRIERS[row.kind], carrier=row.carrier, row=row.number)
-    line = COMMANDS[row.kind].format(radio=row.radio, carrier=row.carrier, slot=row.slot, channel=row.channel)
     reply = DONE if row.reply == "done" else (row.reply or "").replace("_", " ")
-    return SiteEvent(row.at_ms, EventKind.COMMAND, line=line, reply=reply, row=row.number)
+    return SiteEvent(row.at_ms, EventKind.COMMAND, line=line_of(row), reply=reply, row=row.number)
+
+
+def line_of(row: RecordedEvent) -> str:
+    """The line of a command, as the console has it."""
+    return COMMANDS[row.kind].format(radio=row.radio, carrier=row.carrier, slot=row.slot, channel=row.channel)
 
 
 def refused_events(records: Records, since: int, from_ms: int, to_ms: int, most: int) -> Iterator[SiteEvent]:

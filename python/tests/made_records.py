@@ -65,6 +65,25 @@ EVENTS = (
 )
 REGISTRATIONS = ((1, 1001), (2, 1002), (3, 1004))
 
+# What the controller does with a file of the first version of the tables, and what the second version has in addition.
+SECOND = """
+ALTER TABLE calls ADD COLUMN waited INTEGER;
+CREATE TABLE carriers (term INTEGER NOT NULL, carrier INTEGER NOT NULL, polls INTEGER NOT NULL, heard INTEGER NOT NULL, noise INTEGER NOT NULL, active INTEGER NOT NULL,
+  PRIMARY KEY (term, carrier)) STRICT;
+UPDATE schema_version SET version = 2;
+"""
+# The ticks for which calls waited, by their numbers: those of call 3 are 3 s, and those of call 5 1.5 s.
+WAITED = {1: 0, 2: 0, 3: 50, 4: 0, 5: 25}
+# Radios that joined: call 1, and call 5 twice, of which the second time is the tick of its end.
+JOINED = (
+    (17, 1, 150, NOON - 51_000, "joined_call", 0, 1, 1003, 91, None, None, None),
+    (18, 3, 500, NOON + 130_000, "joined_call", 0, 1, 1004, 91, None, None, None),
+    (19, 3, 600, NOON + 136_000, "joined_call", 0, 1, 1001, 91, None, None, None),
+    (20, 3, 825, NOON + 149_500, "joined_call", 0, 1, 1004, 91, None, None, None),
+)
+# term, carrier, polls, heard, noise, active
+CARRIERS = ((1, 0, 1500, 20, 1, 60), (1, 1, 1376, 0, 2, 40), (2, 0, 800, 9, 0, 30), (2, 1, 640, 0, 0, 20), (3, 0, 1905, 12, 1, 80))
+
 
 @contextlib.contextmanager
 def zone(name: str) -> Iterator[None]:
@@ -79,11 +98,13 @@ def zone(name: str) -> Iterator[None]:
 
 
 def insert(conn: sqlite3.Connection, table: str, rows: tuple[tuple[object, ...], ...]) -> None:
-    """Inserts rows into a table."""
-    conn.executemany(f"INSERT INTO {table} VALUES ({', '.join('?' * len(rows[0]))})", rows)
+    """Inserts rows into a table. Columns that they do not have are the last ones, which are NULL."""
+    if rows:
+        names = [row[1] for row in conn.execute(f"PRAGMA table_info({table})")][:len(rows[0])]
+        conn.executemany(f"INSERT INTO {table} ({', '.join(names)}) VALUES ({', '.join('?' * len(names))})", rows)
 
 
-def make_records(path: pathlib.Path, terms: int = len(TERMS)) -> pathlib.Path:
+def make_records(path: pathlib.Path, terms: int = len(TERMS), version: int = 1) -> pathlib.Path:
     """Makes a file of records with the first `terms` terms, with a write-ahead log, as the controller does, in place of another one. Its path."""
     path.unlink(missing_ok=True)
     with contextlib.closing(sqlite3.connect(path)) as conn:
@@ -92,17 +113,29 @@ def make_records(path: pathlib.Path, terms: int = len(TERMS)) -> pathlib.Path:
         conn.execute("INSERT INTO schema_version VALUES (1)")
         insert(conn, "registrations", REGISTRATIONS)
         conn.commit()
+    if version == 2:
+        carry_over(path)
     for number in range(1, terms + 1):
         add_term(path, number)
     return path
 
 
+def carry_over(path: pathlib.Path) -> None:
+    """Makes the tables of a file those of the second version. What its rows do not say is NULL."""
+    with contextlib.closing(sqlite3.connect(path)) as conn:
+        conn.executescript(SECOND)
+
+
 def add_term(path: pathlib.Path, number: int) -> None:
-    """Adds the rows of a term."""
+    """Adds the rows of a term, as the version of the tables has them."""
     with contextlib.closing(sqlite3.connect(path)) as conn, conn:
         insert(conn, "terms", (TERMS[number - 1],))
         insert(conn, "calls", tuple(it for it in CALLS if it[1] == number))
         insert(conn, "events", tuple(it for it in EVENTS if it[1] == number))
+        if conn.execute("SELECT version FROM schema_version").fetchone() == (2,):
+            conn.executemany("UPDATE calls SET waited = ? WHERE number = ? AND term = ?", [(waited, call, number) for call, waited in WAITED.items()])
+            insert(conn, "events", tuple(it for it in JOINED if it[1] == number))
+            insert(conn, "carriers", tuple(it for it in CARRIERS if it[0] == number))
 
 
 # A process that has SQLite's exclusive lock on a file from its first line on, until its input ends. A second connection of one process sees no lock of the first.

@@ -18,7 +18,9 @@ from unittest import mock
 from temzaar.archive import DAY_MS, TIMES, Archive, month_span
 from temzaar.cli import archive, callbook
 from temzaar.records import RecordsFault, opened_records
-from tests.made_records import CALLS, EVENTS, NOON, TERMS, add_term, insert, locked, make_records, zone
+from tests.made_records import (
+    CALLS, CARRIERS, EVENTS, NOON, TERMS, add_term, carry_over, insert, locked, make_records, zone,
+)
 from tests.support import TOP, call_tool, run_tool
 
 HOUR = 3_600_000
@@ -271,6 +273,36 @@ class Repeated(ArchiveCase):
         self.expect("2026-10.2.db: 6 calls, 6 events, 5 terms added\n2026-11.2.db: 2 calls, 2 events, 3 terms added\n")
         self.expect("nothing to do\n")
 
+    def test_the_second_version(self) -> None:
+        """A month has the rows of both versions, and the counts of the second one's terms."""
+        for before in (0, 1, 2):
+            with self.subTest(before=before):
+                make_records(self.path, terms=before)
+                self.run_at(self.now)
+                carry_over(self.path)
+                for number in range(before + 1, 4):
+                    add_term(self.path, number)
+                self.assertIn("2026-11.db: ", self.run_at(self.now).stdout)
+                self.expect("nothing to do\n")
+                self.assertEqual(self.names(), ["2026-11.db"])
+                self.assertEqual(self.archived(), rows_of([self.path]))
+                with contextlib.closing(sqlite3.connect(self.folder / "2026-11.db")) as conn:
+                    self.assertEqual(conn.execute("SELECT * FROM schema_version").fetchall(), [(2,)])
+                    self.assertEqual(conn.execute("SELECT * FROM carriers").fetchall(),
+                                     [it for it in CARRIERS if it[0] > before])
+                of_month, of_site = (call_tool(callbook.main, "--records", str(it))
+                                     for it in (self.folder / "2026-11.db", self.path))
+                self.assertEqual(of_month.stdout, of_site.stdout)
+                (self.folder / "2026-11.db").unlink()
+
+    def test_back_to_the_first_version(self) -> None:
+        """An older controller begins a file of its own, which is another one also in the archive."""
+        make_records(self.path, version=2)
+        self.run_at(self.now)
+        make_records(self.path, terms=1)
+        self.expect("2026-11.2.db: 2 calls, 7 events, 1 term added\n")
+        self.expect("nothing to do\n")
+
     def test_older_days(self) -> None:
         self.now = NOVEMBER + DAY_MS
         self.expect("2026-10.db: 6 calls, 6 events, 5 terms added\n", "--older-days", "1")
@@ -298,6 +330,15 @@ class Kept(ArchiveCase):
         self.expect("2026-11.db: 0 calls, 0 events, 2 terms removed; it was empty, and is gone\n", "--keep-days", "10")
         self.assertEqual(self.names(), [])
         self.assertEqual(len(rows_of([self.path])["calls"]), len(BEGAN))
+
+    def test_counts_of_a_term(self) -> None:
+        """They are removed with their term: the first two ended 100 s and 70 s more than a day ago."""
+        make_records(self.path, version=2)
+        self.run_at(self.now)
+        self.now = NOON + DAY_MS + 100_000
+        self.assertIn(" 2 terms removed", self.run_at(self.now, "--keep-days", "1").stdout)
+        with contextlib.closing(sqlite3.connect(self.folder / "2026-11.db")) as conn:
+            self.assertEqual(conn.execute("SELECT * FROM carriers").fetchall(), [CARRIERS[4]])
 
     def test_nothing_is_left_of_a_row(self) -> None:
         """Of what was removed no octet is left in the file."""

@@ -20,25 +20,34 @@ from temzaar.printable import printable, safe_cell
 from temzaar.recordgaps import LOST, RESTARTED, Gap, find_gaps
 from temzaar.records import CAUSES, VERSION, opened_records
 from temzaar.recordsheet import lines_below
-from tests.made_records import CALLS, EVENTS, NOON, REGISTRATIONS, TERMS, TABLES, add_term, locked, make_records, zone
+from tests.made_records import CALLS, EVENTS, NOON, REGISTRATIONS, TERMS, TABLES, add_term, carry_over, insert, locked, make_records, zone
 from tests.support import call_tool, queries_of, read_document, table_rows
 
 # All calls, at noon in a zone two hours east of UTC, which is 14:00.
 TABLE = """\
-number  began                seconds  slot  kind        source  target  cause
-     1  2026-11-27 13:59:06      6.0  0/1   talkgroup   1001    91      hang_time
-     2  2026-11-27 13:59:18      3.0  1/0   individual  1002    1001    ended_by_operator
-     3  2026-11-27 13:59:54     12.0  1/1   talkgroup   1003    92      carrier_lost
-     4  2026-11-27 14:00:09     15.0  0/1   individual  1001    1003    radio_left
-     5  2026-11-27 14:01:52     37.5  0/1   talkgroup   1002    91      maximum
+number  began                seconds  waited  slot  kind        source  target  cause              joined
+     1  2026-11-27 13:59:06      6.0          0/1   talkgroup   1001    91      hang_time
+     2  2026-11-27 13:59:18      3.0          1/0   individual  1002    1001    ended_by_operator
+     3  2026-11-27 13:59:54     12.0          1/1   talkgroup   1003    92      carrier_lost
+     4  2026-11-27 14:00:09     15.0          0/1   individual  1001    1003    radio_left
+     5  2026-11-27 14:01:52     37.5          0/1   talkgroup   1002    91      maximum
 """
 NAMED_TABLE = """\
-number  began                seconds  slot        kind        source         target                 cause
-     1  2026-11-27 13:59:06      6.0  0/1         talkgroup   1001 [Bus 12]  91 [Linienbus Nord..]  hang_time
-     2  2026-11-27 13:59:18      3.0  1/0 [東京]  individual  1002 [=1+1,a]  1001 [Bus 12]          ended_by_operator
-     3  2026-11-27 13:59:54     12.0  1/1 [東京]  talkgroup   1003           92                     carrier_lost
-     4  2026-11-27 14:00:09     15.0  0/1         individual  1001 [Bus 12]  1003                   radio_left
-     5  2026-11-27 14:01:52     37.5  0/1         talkgroup   1002 [=1+1,a]  91 [Linienbus Nord..]  maximum
+number  began                seconds  waited  slot        kind        source         target                 cause              joined
+     1  2026-11-27 13:59:06      6.0          0/1         talkgroup   1001 [Bus 12]  91 [Linienbus Nord..]  hang_time
+     2  2026-11-27 13:59:18      3.0          1/0 [東京]  individual  1002 [=1+1,a]  1001 [Bus 12]          ended_by_operator
+     3  2026-11-27 13:59:54     12.0          1/1 [東京]  talkgroup   1003           92                     carrier_lost
+     4  2026-11-27 14:00:09     15.0          0/1         individual  1001 [Bus 12]  1003                   radio_left
+     5  2026-11-27 14:01:52     37.5          0/1         talkgroup   1002 [=1+1,a]  91 [Linienbus Nord..]  maximum
+"""
+# The same, of a file of the second version.
+WITH_WAITS = """\
+number  began                seconds  waited  slot  kind        source  target  cause              joined
+     1  2026-11-27 13:59:06      6.0     0.0  0/1   talkgroup   1001    91      hang_time          1003
+     2  2026-11-27 13:59:18      3.0     0.0  1/0   individual  1002    1001    ended_by_operator
+     3  2026-11-27 13:59:54     12.0     3.0  1/1   talkgroup   1003    92      carrier_lost
+     4  2026-11-27 14:00:09     15.0     0.0  0/1   individual  1001    1003    radio_left
+     5  2026-11-27 14:01:52     37.5     1.5  0/1   talkgroup   1002    91      maximum            1004, 1001
 """
 GAP = "no records from 2026-11-27 14:00:30 to 2026-11-27 14:01:40, 70.0 s: the controller was started again\n"
 UNTIL = "recorded up to 2026-11-27 14:02:40; the term that is running is not in it\n"
@@ -95,12 +104,14 @@ class Printed(RecordsCase):
         rows = list(csv.DictReader(call_tool(main, "--records", str(self.path), "--format", "csv").stdout.splitlines()))
         self.assertEqual(len(rows), 5)
         self.assertEqual(rows[4], {"number": "5", "term": "3", "began": "2026-11-27T14:01:52.000+02:00", "ended": "2026-11-27T14:02:29.500+02:00", "seconds": "37.5",
-                                   "carrier": "0", "slot": "1", "kind": "talkgroup", "source": "1002", "target": "91", "cause": "maximum"})
+                                   "carrier": "0", "slot": "1", "kind": "talkgroup", "source": "1002", "target": "91", "cause": "maximum",
+                                   "waited_seconds": "", "joined": ""})
 
     def test_json(self) -> None:
         rows = json.loads(call_tool(main, "--records", str(self.path), "--format", "json", "--last", "2").stdout)
         self.assertEqual(rows[0], {"number": 4, "term": 2, "began": "2026-11-27T14:00:09.000+02:00", "ended": "2026-11-27T14:00:24.000+02:00", "seconds": 15.0,
-                                   "carrier": 0, "slot": 1, "kind": "individual", "source": 1001, "target": 1003, "cause": "radio_left"})
+                                   "carrier": 0, "slot": 1, "kind": "individual", "source": 1001, "target": 1003, "cause": "radio_left",
+                                   "waited_seconds": None, "joined": None})
         self.assertEqual(rows[1]["number"], 5)
 
     def test_names(self) -> None:
@@ -114,16 +125,42 @@ class Printed(RecordsCase):
         plain, named = (call_tool(main, *words[:count], "--format", "csv").stdout.splitlines() for count in (2, 4))
         self.assertEqual([line[:len(before)] for before, line in zip(plain, named, strict=True)], plain)
         self.assertEqual([line[len(before):] for before, line in zip(plain, named, strict=True)],
-                         [",source_name,target_name,carrier_name", ",Bus 12,Linienbus Nordring Süd,", ",\"'=1+1,a\",Bus 12,東京", ",,,東京", ",Bus 12,,", ",\"'=1+1,a\",Linienbus Nordring Süd,"])
+                         [",source_name,target_name,carrier_name,joined_names", ",Bus 12,Linienbus Nordring Süd,,", ",\"'=1+1,a\",Bus 12,東京,", ",,,東京,", ",Bus 12,,,",
+                          ",\"'=1+1,a\",Linienbus Nordring Süd,,"])
         rows, before = (json.loads(call_tool(main, *words[:count], "--format", "json").stdout) for count in (4, 2))
-        self.assertEqual([{name: value for name, value in row.items() if name not in ("source_name", "target_name", "carrier_name")} for row in rows], before)
-        self.assertEqual([*rows[1]][-3:], ["source_name", "target_name", "carrier_name"])
+        self.assertEqual([{name: value for name, value in row.items() if not name.endswith(("_name", "_names"))} for row in rows], before)
+        self.assertEqual([*rows[1]][-4:], ["source_name", "target_name", "carrier_name", "joined_names"])
         self.assertEqual((rows[1]["source_name"], rows[1]["target_name"], rows[2]["source_name"], rows[2]["carrier_name"]), ("=1+1,a", "Bus 12", None, "東京"))
         self.expect_fault(f"{self.folder}/none: No such file or directory", "--names", f"{self.folder}/none")
 
     def test_no_call(self) -> None:
-        for form, printed in (("table", TABLE.split("\n")[0].split()), ("csv", ["number,term,began,ended,seconds,carrier,slot,kind,source,target,cause"]), ("json", ["[]"])):
+        for form, printed in (("table", TABLE.split("\n")[0].split()), ("csv", ["number,term,began,ended,seconds,carrier,slot,kind,source,target,cause,waited_seconds,joined"]), ("json", ["[]"])):
             self.assertEqual(call_tool(main, "--records", str(self.path), "--radio", "7", "--format", form).stdout.split()[:len(printed)], printed)
+
+    def test_waits_and_who_joined(self) -> None:
+        """Of the second version of the tables: in each format, and with names."""
+        self.path = make_records(self.folder / "second.db", version=2)
+        self.assertEqual(call_tool(main, "--records", str(self.path)).stdout, WITH_WAITS + GAP + UNTIL)
+        names = self.folder / "names.csv"
+        names.write_text("radio,1004,Bus 4\n", encoding="utf-8")
+        words = ["--records", str(self.path), "--names", str(names), "--format"]
+        rows = list(csv.DictReader(call_tool(main, *words, "csv").stdout.splitlines()))
+        self.assertEqual([(it["waited_seconds"], it["joined"], it["joined_names"]) for it in rows],
+                         [("0.0", "1003", ""), ("0.0", "", ""), ("3.0", "", ""), ("0.0", "", ""), ("1.5", "1004; 1001", "Bus 4; ")])
+        rows = json.loads(call_tool(main, *words, "json").stdout)
+        self.assertEqual([(it["waited_seconds"], it["joined"], it["joined_names"]) for it in rows[:1] + rows[-1:]], [(0, [1003], [None]), (1.5, [1004, 1001], ["Bus 4", None])])
+        self.assertTrue(call_tool(main, *words, "table").stdout.splitlines()[5].endswith("  maximum            1004 [Bus 4], 1001"))
+
+    def test_a_file_that_was_carried_over(self) -> None:
+        """Of calls of the first version nothing is known. Of the others it is, also if the times of a call's terms differ, and if the controller had the same ticks in another run."""
+        self.path = make_records(self.folder / "carried.db", terms=2)
+        carry_over(self.path)
+        add_term(self.path, 3)
+        with contextlib.closing(sqlite3.connect(self.path)) as conn, conn:
+            insert(conn, "events", ((21, 3, 300, NOON + 111_000, "joined_call", 0, 1, 1005, 91, None, None, None), (22, 3, 300, NOON + 118_000, "joined_call", 1, 1, 1006, 91, None, None, None),
+                                    (23, 3, 300, NOON + 118_000, "joined_call", 0, 1, 1007, 92, None, None, None), (24, 2, 300, NOON + 30_000, "joined_call", 0, 1, 1008, 91, None, None, None)))
+        rows = json.loads(call_tool(main, "--records", str(self.path), "--format", "json").stdout)
+        self.assertEqual([(it["waited_seconds"], it["joined"]) for it in rows], [*[(None, None)] * 4, (1.5, [1005, 1004, 1001])])
 
     def test_cells_are_safe(self) -> None:
         """A text that somebody wrote into the file is not a formula for a spreadsheet, and does not move a terminal's cursor."""
@@ -141,7 +178,7 @@ class Printed(RecordsCase):
         with contextlib.closing(sqlite3.connect(self.path)) as conn, conn:
             conn.execute("UPDATE calls SET began_ms = 9000000000000000000, ended_ms = 9000000000000000000 WHERE number = 1")
         self.assertIsNone(json.loads(call_tool(main, "--records", str(self.path), "--format", "json").stdout)[0]["began"])
-        self.assertIn("     1  -                        0.0  0/1", call_tool(main, "--records", str(self.path)).stdout)
+        self.assertIn("     1  -                        0.0          0/1", call_tool(main, "--records", str(self.path)).stdout)
 
 
 class Gaps(RecordsCase):

@@ -11,18 +11,18 @@ import unittest
 from collections.abc import Callable, Iterator, Sequence
 from typing import NamedTuple
 
-from temzaar.cli import archive, callbook, carriers, check, conform, console, hub, restart, siteview, timeline
+from temzaar.cli import archive, callbook, carriers, check, conform, console, hub, report, restart, siteview, timeline
 from temzaar.ports import free_ports
 from temzaar.process import connect
 from temzaar.sitefile import FREE_PORTS, Site
 from tests.support import EXAMPLES, TOP, TWO_CARRIERS, call_tool, take_signals, tool_words
 
-MAINS: dict[str, Callable[[list[str]], int]] = {"siteview": siteview.main, "timeline": timeline.main, "callbook": callbook.main, "archive": archive.main, "carriers": carriers.main,
+MAINS: dict[str, Callable[[list[str]], int]] = {"siteview": siteview.main, "timeline": timeline.main, "callbook": callbook.main, "report": report.main, "archive": archive.main, "carriers": carriers.main,
                                                  "conform": conform.main, "check": check.main, "restart": restart.main, "hub": hub.main, "console": console.main}
 # The words for `--help` that would do harm, or fail, without it.
-HELP_WORDS = {"check": "{none}", "hub": "--config {none}", "console": "--socket {none} status", "callbook": "--records {none}", "archive": "--records {none} --folder {none}", "restart": "--site {none} --command {none}"}
+HELP_WORDS = {"check": "{none}", "hub": "--config {none}", "console": "--socket {none} status", "callbook": "--records {none}", "report": "--records {none}", "archive": "--records {none} --folder {none}", "restart": "--site {none} --command {none}"}
 # Those that do something without words.
-WITHOUT_WORDS = ("hub", "console", "callbook", "archive", "restart")
+WITHOUT_WORDS = ("hub", "console", "callbook", "report", "archive", "restart")
 FAKE = str(TOP / "python" / "tests" / "fake_controller.py")
 SCRIPT, PRINTED = EXAMPLES / "scripts" / "operator.txt", EXAMPLES / "expected" / "operator.txt"
 # What siteview asks of a site of one carrier, in this order, and the replies.
@@ -63,7 +63,7 @@ CASES = (
     # no file, a folder for a file, a file of something else
     *(Case("archive", f"--folder {{folder}} --records {{{file}}}", 1, f"{{{file}}}: {said}") for file, said in (("none", "No such file or directory"), ("text", "not an SQLite database"))),
     *(Case("archive", f"--folder {{{file}}}", 1, f"{{{file}}}: {said}") for file, said in (("none", "No such file or directory"), ("text", "Not a directory"))),
-    *(Case(tool, f"--records {{{file}}}", 1, f"{{{file}}}: {said}") for tool in ("callbook", "timeline")
+    *(Case(tool, f"--records {{{file}}}", 1, f"{{{file}}}: {said}") for tool in ("callbook", "report", "timeline")
       for file, said in (("none", "No such file or directory"), ("folder", "Is a directory"), ("text", "not an SQLite database"), ("octets", "not an SQLite database"))),
     *(Case("check", f"{{{file}}}", 2, f"cannot read {{{file}}}: {said}") for file, said in (("none", "No such file or directory"), ("folder", "Is a directory"))),
     *(Case("hub", f"{more} --config {{{file}}}", 1, f"config file: {said}") for more in ("", "--check") for file, said in (
@@ -72,6 +72,7 @@ CASES = (
     *(Case(tool, f"--site {{{file}}} {more}", 1, f"site file {{{file}}}: {said}")
       for tool, more in (("siteview", "--once"), ("carriers", "--seconds 1"), ("conform", "--program {program} -- {none}"), ("timeline", "--script {script} --printed {printed}"))
       for file, said in (("none", "No such file or directory"), ("folder", "Is a directory"), ("text", "not TOML"), ("octets", "octet 0 is not UTF-8"), ("wrong", "wrong type console_port"))),
+    *(Case("report", f"--site {{{file}}}", 1, f"site file {{{file}}}: {said}") for file, said in (("none", "No such file or directory"), ("text", "not TOML"))),
     *(Case("timeline", words, 1, said) for words, said in (
         ("--site {site} --script {none} --printed {printed}", "{none}: No such file or directory"), ("--site {site} --script {folder} --printed {printed}", "{folder}: Is a directory"),
         ("--site {site} --script {text} --printed {printed}", "script line 1"), ("--site {site} --script {octets} --printed {printed}", "{octets}: octet 0 is not UTF-8"),
@@ -83,7 +84,7 @@ CASES = (
     Case("timeline", DRAW + " --page 1 --out {none}/a.svg", 1, "{none}/a-001.svg: No such file or directory"),
     Case("timeline", DRAW + " --out /dev/full", 1, "/dev/full: No space left on device"),
     # no names
-    *(Case(tool, f"{words} --names {{{file}}}", 1, f"{{{file}}}: {said}") for tool, words in (("timeline", DRAW), ("callbook", "--records {none}"))
+    *(Case(tool, f"{words} --names {{{file}}}", 1, f"{{{file}}}: {said}") for tool, words in (("timeline", DRAW), ("callbook", "--records {none}"), ("report", "--records {none}"))
       for file, said in (("none", "No such file or directory"), ("folder", "Is a directory"), ("octets", "line 1: not kind,number,name, three fields with commas between them; no line of the file is right"))),
     *(Case("check", f"--names {{{file}}} {site}", 2, f"{{{file}}}: {said}") for site in ("", "{site}") for file, said in (("none", "No such file or directory"), ("folder", "Is a directory"))),
     # wrong types of words
@@ -97,6 +98,7 @@ CASES = (
     *(Case("conform", f"--site {{site}} --program {{program}} {words}", 2, said) for words, said in (("--row x", "invalid choice"), ("--wait 0", "not a number above 0"))),
     *(Case("check", words, 2, said) for words, said in (("--link-version 3 {site}", "invalid choice"), ("{site} {site}", "unrecognized arguments"))),
     *(Case("callbook", words, 2, said) for words, said in (("--radio x", "not a whole number from 1"), ("--format xml", "invalid choice"), ("site.db", "unrecognized arguments"))),
+    *(Case("report", words, 2, said) for words, said in (("--slots 0", "not a whole number from 1"), ("--limit x", "not a number above 0"), ("--slots 3 --site {site}", "not allowed with"))),
     *(Case("archive", words, 2, said) for words, said in (("--keep-days 0", "not a whole number from 1"), ("--older-days x", "not a whole number from 0"), ("2026-11.db", "unrecognized arguments"))),
     *(Case("restart", f"--site {{site}} {words}", 2, said) for words, said in (("--within 0", "not a number above 0"), ("--back x", "not a number above 0"), ("now", "unrecognized arguments"))),
     *(Case("hub", words, 2, said) for words, said in (("--config", "expected one argument"), ("status", "unrecognized arguments"))),

@@ -8,7 +8,7 @@ import unittest
 from tests.support import TOP, manual_pages
 
 FILE = TOP / "deploy" / "completion" / "dmr.bash"
-COMMANDS = ("dmr_trunk", "dmr_decode", "dmr_siteview", "dmr_timeline", "dmr_callbook", "dmr_archive", "dmr_carriers", "dmr_conform", "dmr_check", "dmr_restart", "dmr_hub", "dmr_console")
+COMMANDS = ("dmr_trunk", "dmr_decode", "dmr_siteview", "dmr_timeline", "dmr_callbook", "dmr_report", "dmr_archive", "dmr_carriers", "dmr_conform", "dmr_check", "dmr_restart", "dmr_hub", "dmr_console")
 
 
 def completed(words: list[str], within: pathlib.Path = TOP) -> list[str]:
@@ -52,6 +52,8 @@ class Completion(unittest.TestCase):
             (["dmr_callbook", "--format", "c"], ["csv"]),
             (["dmr_callbook", "--cause", "ma"], ["maximum"]),
             (["dmr_callbook", "--last", ""], []),
+            (["dmr_report", "--format", "j"], ["json"]),
+            (["dmr_report", "--sl"], ["--slots"]),
             (["dmr_restart", "--wi"], ["--within"]),
             (["dmr_archive", "--folder", "dep"], ["deploy"]),
             (["/usr/bin/dmr_hub", "--ch"], ["--check"]),

@@ -14,8 +14,8 @@ from temzaar.hub.config import RecordsKeys
 from temzaar.hub.moment import Moment
 from temzaar.hub.recordreader import RecordReader
 from temzaar.hub.samples import FIGURES, Samples, Span, Summary
-from temzaar.hub.slotuse import Piece, Used, edges_of, pieces, slots_used, summaries
-from temzaar.recordgaps import LOST, Gap
+from temzaar.hub.slotuse import Used, slots_used, summaries
+from temzaar.recordgaps import LOST, Gap, Piece, edges_of, pieces
 from temzaar.records import opened_records
 from tests.made_records import NOON, add_term, insert, make_records
 from tests.test_hub_web import WebCase

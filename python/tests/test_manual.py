@@ -17,7 +17,7 @@ from tests.support import TOP, manual_pages, program, read_document, run_tool, t
 from tests.test_messages import as_pattern, messages
 
 WRITE = TOP / "ci" / "write-manual"
-TOOLS = ("siteview", "timeline", "callbook", "archive", "carriers", "conform", "check", "restart", "console", "hub")
+TOOLS = ("siteview", "timeline", "callbook", "report", "archive", "carriers", "conform", "check", "restart", "console", "hub")
 PAGE_OF = {tool: f"dmr_{tool}.{8 if tool in ('hub', 'archive', 'restart') else 1}" for tool in TOOLS}
 WANTED = {"dmr_trunk.8", "dmr_trunk.5", "dmr_decode.1", *PAGE_OF.values()}
 # The order of sections; a page leaves out those that do not apply.

@@ -64,15 +64,15 @@ class Formula(unittest.TestCase):
         """Rappaport's example of Erlang C: 15 channels with 9 Erlang, of calls of 104.4 s. By his
         chart 5 of 100 are delayed; of these 56.29 of 100 wait longer than 10 s."""
         self.assertAlmostEqual(waiting_share(15, 9.0), 0.05, delta=0.002)
-        late = Service.of(Demand(9, 3600 / 104.4, 104.4, 10, 0.05), 8)
-        self.assertEqual(late.slots, 15)
+        late = Service.of(Demand(9, 3600 / 104.4, 104.4, 10, 0.05), 15)
+        self.assertEqual(late.carriers, 8)
         self.assertAlmostEqual(late.too_long / late.waiting, 0.5629, delta=0.0001)
 
     def test_published_queue(self) -> None:
         """Gross and Harris, Fundamentals of Queueing Theory, the eye clinic: three doctors, six
         patients an hour, 20 minutes each. 8/9 of a patient waits on average: for 8/54 hour."""
         self.assertAlmostEqual(waiting_share(3, 2.0), 4 / 9)
-        clinic = Service.of(Demand(6, 1, 1200, 60, 0.05), 2)
+        clinic = Service.of(Demand(6, 1, 1200, 60, 0.05), 3)
         self.assertAlmostEqual(clinic.mean_wait, 3600 * 8 / 54)
 
     def test_the_sum(self) -> None:
@@ -86,17 +86,18 @@ class Formula(unittest.TestCase):
 
     def test_too_much(self) -> None:
         for erlang in (3.0, 3.1, 500.0):
-            self.assertEqual(Service.of(Demand(1, erlang, 3600, 5, 0.05), 2), Service(2, 3, 1.0, 1.0, math.inf))
+            self.assertEqual(Service.of(Demand(1, erlang, 3600, 5, 0.05), 3), Service(3, 1.0, 1.0, math.inf))
 
 
 class Simulated(unittest.TestCase):
     """A queue that is played, call by call."""
 
     def test_shares_and_mean(self) -> None:
-        for demand, carriers in ((Demand(300, 4, 12, 5, 0.05), 3), (Demand(300, 4, 12, 5, 0.05), 4), (Demand(40, 3, 15, 20, 0.05), 1), (Demand(1800, 5, 9, 2, 0.05), 14)):
-            service = Service.of(demand, carriers)
+        for demand, slots in ((Demand(300, 4, 12, 5, 0.05), 5), (Demand(300, 4, 12, 5, 0.05), 7), (Demand(300, 4, 12, 5, 0.05), 6), (Demand(40, 3, 15, 20, 0.05), 1),
+                              (Demand(1800, 5, 9, 2, 0.05), 27)):
+            service = Service.of(demand, slots)
             for seen, wanted in ((lambda it: it > 0, service.waiting), (lambda it: it > demand.wait, service.too_long), (float, service.mean_wait)):
-                with self.subTest(demand, carriers=carriers, wanted=wanted):
+                with self.subTest(demand, slots=slots, wanted=wanted):
                     played = waits(service.slots, demand, 20261130)
                     for _ in range(BEFORE):
                         next(played)

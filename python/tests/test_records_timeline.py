@@ -89,6 +89,13 @@ class RecordsTimeline(unittest.TestCase):
         self.assertIn(">group 91 [Drivers]</text>", svg)
         self.assertNotIn("<b>", svg)
 
+    def test_who_joined(self) -> None:
+        """Of the second version of the tables, each request that was answered with a call that was under way."""
+        make_records(self.path, version=2)
+        found = titles_of(self.draw())
+        joined = [f"12:0{at}: radio {radio} asked for the call of group 91" for at, radio in (("2:10.000", 1004), ("2:16.000", 1001), ("2:29.500", 1004))]
+        self.assertEqual(found, {**TITLES, "ack": sorted([*TITLES["ack"], "11:59:09.000: radio 1003 asked for the call of group 91", *joined])})
+
     def test_a_part(self) -> None:
         """A carrier that came up before has no mark for that, and is not grey; the bar of a call that was active already begins at the left edge."""
         svg = self.draw(*PART)

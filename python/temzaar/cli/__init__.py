@@ -1,1 +1,1 @@
-"""The commands: `siteview`, `timeline`, `callbook`, `archive`, `carriers`, `conform`, `check`, `restart`, `hub` and `console`, each a module with a `main` that takes the words and returns the status."""
+"""The commands: `siteview`, `timeline`, `callbook`, `report`, `archive`, `carriers`, `conform`, `check`, `restart`, `hub` and `console`, each a module with a `main` that takes the words and returns the status."""

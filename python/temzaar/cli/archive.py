@@ -30,11 +30,12 @@ import time
 from collections.abc import Callable, Sequence
 
 from temzaar.archive import (
-    DAY_MS, DEFAULT_FOLDER, Archive, Change, Span, month_span, months_of, rows_in_words,
+    DAY_MS, DEFAULT_FOLDER, Archive, Change, month_span, months_of, rows_in_words,
 )
 from temzaar.cli.command import (
     DONE, FAULT, amount_above, clean_up_on_signals, count_of, parse_words, print_note, run_command,
 )
+from temzaar.moments import Span
 from temzaar.records import DEFAULT_PATH, LOCK_SECONDS, Records, RecordsFault, opened_records
 
 NAME = "archive"

@@ -1,4 +1,4 @@
-"""Prints the calls that the controller has recorded: when each began, how long it was, on which slot, who called whom, and why it ended.
+"""Prints the calls that the controller has recorded: when each began, how long it was and had waited, its slot, who called whom, why it ended, and who joined.
 
     callbook                                       all calls of /var/lib/dmr_trunk/site.db, newest last
     callbook --records site.db --last 20           the last twenty of this file
@@ -10,11 +10,15 @@
 ago; s, m and d are seconds, minutes and days. A call is printed if all options fit it, and if it was active at some time between them.
 
 The newest call is the last. The table has times of the machine's zone; CSV and JSON have them as ISO 8601, with milliseconds and the zone's offset. A slot of
-the table is the carrier's number and the slot's. A kind is talkgroup or individual. Below the calls are the times without records, and up to when the records
-go. The controller writes the file at the end of each term, so calls of the term that runs are not in it yet. As CSV and JSON the calls go to standard output
-alone, and these lines to standard error.
+the table is the carrier's number and the slot's. A kind is talkgroup or individual. For how long a request waited for a slot is in seconds, as waited, or
+waited_seconds in CSV and JSON. Radios that asked for a talkgroup's call while it lasted have joined it. Both are empty, and null in JSON, of calls that a
+controller recorded before it kept them.
 
-With --names a name is next to its number: in the table 1001 [Bus 12], in CSV and JSON as source_name, target_name and carrier_name after the other columns.
+Below the calls are the times without records, and up to when the records go. The controller writes the file at the end of each term, so calls of the term that
+runs are not in it yet. As CSV and JSON the calls go to standard output alone, and these lines to standard error.
+
+With --names a name is next to its number: in the table 1001 [Bus 12], in CSV and JSON as source_name, target_name, carrier_name and joined_names after the
+other columns.
 
 The tool copies the file while it has SQLite's lock of readers, and writes nothing next to it. It needs the right to read the file, as root or the
 controller's user has it.
@@ -31,7 +35,7 @@ from temzaar.cli.command import add_names_option, amount_above, clean_up_on_sign
 from temzaar.moments import join_times, read_moment
 from temzaar.recordgaps import find_gaps, gaps_within
 from temzaar.records import CAUSES, DEFAULT_PATH, LOCK_SECONDS, opened_records
-from temzaar.recordsheet import CallQuery, SheetFormat, lines_below, write_sheet
+from temzaar.recordsheet import CallQuery, SheetFormat, lines_below, who_joined, write_sheet
 
 MOST_ADDRESS = (1 << 24) - 1
 MOST_CALLS = 1_000_000
@@ -66,12 +70,12 @@ def print_calls(options: argparse.Namespace) -> int:
     """Prints what the words ask for. The status. ToolFault: the file or a time is at fault."""
     query, names = query_of(options), names_of_words("callbook", options)
     with opened_records(options.records, options.seconds) as records:
-        calls, gaps = records.calls(query.where(), options.last), find_gaps(records)
-        last = records.terms(("number = (SELECT max(number) FROM terms)", []))
+        calls, gaps, last = records.calls(query.where(), options.last), find_gaps(records), records.last_term()
+        joined = who_joined(records, calls)
     # of the newest calls alone, the gaps since the first of them
     first = query.from_ms if options.last is None or not calls else calls[0].began_ms
-    below = lines_below(gaps_within(gaps, first, query.to_ms), last[0].ended_ms if last else None)
-    sys.stdout.write(write_sheet(calls, SheetFormat(options.format), names))
+    below = lines_below(gaps_within(gaps, first, query.to_ms), last.ended_ms if last else None)
+    sys.stdout.write(write_sheet(calls, joined, SheetFormat(options.format), names))
     for line in below:
         if options.format == SheetFormat.TABLE.value:
             print(line)

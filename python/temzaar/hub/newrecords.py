@@ -78,7 +78,7 @@ def seen_call(call: RecordedCall) -> SeenCall:
 
 def last_term(records: Records) -> RecordedTerm | None:
     """The newest term; None if there is none. BadRow: a value of it is not a number."""
-    term = next(iter(records.terms(("number = (SELECT max(number) FROM terms)", []))), None)
+    term = records.last_term()
     if term:
         for name, value in {"ended_ms": term.ended_ms, **term.counts}.items():
             require(is_whole(value), f"terms, row {term.number}", f"{name} is {value!r}")

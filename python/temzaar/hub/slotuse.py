@@ -8,7 +8,7 @@ from typing import NamedTuple
 
 from temzaar.hub.moment import Moment
 from temzaar.hub.samples import SPANS, Summary
-from temzaar.recordgaps import Gap, find_gaps, gaps_within
+from temzaar.recordgaps import Piece, edges_of, find_gaps, gaps_within, pieces
 from temzaar.records import Records, is_whole, require
 
 # When the oldest of some terms began, and the oldest of the new ones among them; and when the last one ended.
@@ -29,33 +29,6 @@ class Used(NamedTuple):
     """How many slots had a call in a sample. Its number is its time on the steady clock, by the step of the span."""
     number: int
     summary: Summary
-
-
-# A time at which the number of calls changes, and that of gaps that there are at the time: in milliseconds, and by how many there are more.
-Edge = tuple[int, int, int]
-
-
-class Piece(NamedTuple):
-    """A time, in milliseconds, in which a number of slots had a call."""
-    begins: int
-    ends: int
-    count: int
-
-
-def pieces(edges: Iterable[Edge], begins: int, ends: int) -> Iterator[Piece]:
-    """The recorded times within two in which the number of calls stays the same, in their order, by edges in the order of their times."""
-    count, hole, since = 0, 0, begins
-    for at, calls, gaps in merge(edges, [(ends, 0, 0)]):
-        if since < at and not hole:
-            yield Piece(since, min(at, ends), count)
-        if at >= ends:
-            return
-        count, hole, since = count + calls, hole + gaps, max(since, at)
-
-
-def edges_of(gaps: Iterable[Gap], shift_ms: int) -> list[Edge]:
-    """The beginnings and the ends of gaps, in the order of their times."""
-    return sorted(edge for gap in gaps for edge in ((gap.from_ms - shift_ms, 0, 1), (gap.to_ms - shift_ms, 0, -1)))
 
 
 def summaries(found: Iterable[Piece], step_ms: int) -> Iterator[Used]:

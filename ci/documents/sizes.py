@@ -16,7 +16,7 @@ SCREEN, LONGEST_WITHOUT_CONTENTS, MOST_MISSING = 45, 150, 2
 def size_faults(budgets: str, sizes: dict[str, int]) -> Iterator[str]:
     """The documents that are above their budgets or far below them, that have none, or do not exist; and a sum that is not that of the budgets.
     `sizes` has the octets of each document, by its path."""
-    total, said, seen = 0.0, "nothing", set()
+    total, said, seen = 0.0, "nothing", set()  # type: float, str, set[str]
     for number, _, pattern in (line.partition(" ") for line in budgets.splitlines() if line and not line.startswith("#")):
         if pattern == "together":
             said = number

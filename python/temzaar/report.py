@@ -275,7 +275,8 @@ def busiest_sheet(traffic: Traffic, asked: Asked, kind: Kind) -> Sheet:
     rows = [[*asked.label(kind, number), *use_cells(traffic, use)]
             for number, use in busiest(uses, BUSIEST)]
     columns = [*asked.columns(kind), CALLS, JOINED, IN_USE, OF_ALL]
-    notes = ("Joined are requests for a talkgroup while a call of it was active.",) if rows else ()
+    joined = "Joined are requests for a talkgroup while a call of it was active."
+    notes = (joined,) if rows and kind is Kind.TALKGROUP else ()
     return Sheet(f"{kind}s", f"Busiest {kind}s{more}", columns, rows, notes, "There is none.", "share")
 
 

@@ -92,10 +92,10 @@ td.number { white-space: nowrap; }
   :root { --heat-0: #ffffff; --heat-1: #eeeeee; --heat-2: #dddddd; --heat-3: #c6c6c6;
     --heat-4: #a8a8a8; --heat-5: #555555; --heat-6: #222222; --accent: #444444; --page: #ffffff;
     --text: #000000; --muted: #333333; --line: #aaaaaa; --gap: #ffffff; }
-  html { font-size: 8.5pt; }
+  html { font-size: 8pt; }
   body { print-color-adjust: exact; -webkit-print-color-adjust: exact; }
-  header, dl, main { padding: 0 0 0.6rem; }
-  dl { grid-template-columns: repeat(8, 1fr); }
+  header, dl, main { padding: 0 0 0.4rem; }
+  dl { grid-template-columns: repeat(4, 1fr); }
   dl div { padding: 0.2rem 0.4rem; }
   dl div, section { border-radius: 0; }
   th, td { padding: 0.05rem 0.4rem 0.05rem 0; }

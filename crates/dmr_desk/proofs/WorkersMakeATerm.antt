@@ -11,6 +11,7 @@ use Rattle.dmr_desk.specs.declared.ending.Ending.TheVariants as ending
 use Rattle.dmr_desk.specs.declared.report.Report.{Report}
 use Rattle.dmr_desk.specs.declared.fault.CloseFault.{CloseFault}
 use Rattle.dmr_desk.specs.Audited.{IsAudited, IsFault}
+use Rattle.dmr_desk.specs.BookState.{AreOfActors}
 use Rattle.dmr_desk.specs.Pace.{Paced}
 use Rattle.dmr_desk.specs.Refusing.{IsEarly, IsUnaudited, first_over, early_actor}
 use Rattle.dmr_desk.specs.Seats.{SeatState, Opened, HasSeat}
@@ -155,13 +156,13 @@ has_run desk seats report ends stations ss ds before after ts te s d is es ee et
     let vs : AllViews journal (map (λ x. x.seat) ds ++ ts ∷ d.seat ∷ []) = subst V es (views_all journal seats (seat_has_view desk seats report is)) in
     let last : AllViews journal (ts ∷ d.seat ∷ []) = views_end journal (map (λ x. x.seat) ds) (ts ∷ d.seat ∷ []) vs in
     record {
-      legal = is.reported.legal;
-      safe = is.reported.safe;
-      within = is.reported.within;
-      site = is.reported.site;
-      actors = is.gathered.as_many ∙ ap length es ∙ length-append (map (λ (x : Done). x.seat) ds) (ts ∷ d.seat ∷ []) ∙ ap (λ (k : ℕ). k + 2) ns;
-      views = is.reported.reported.each;
-      nobody = is.reported.reported.others;
+      legal = is.kept.journal.kept.legal;
+      safe = is.kept.safe;
+      within = is.kept.journal.kept.within;
+      site = is.kept.site;
+      actors = is.kept.gathered.as_many ∙ ap length es ∙ length-append (map (λ (x : Done). x.seat) ds) (ts ∷ d.seat ∷ []) ∙ ap (λ (k : ℕ). k + 2) ns;
+      views = is.same;
+      nobody = let K : ℕ → Type 0 = λ n. AreOfActors n journal in subst K (sym is.kept.actors) is.kept.journal.known;
       handed_back = ap length et ∙ nt;
       carriers = λ k a b e ga gb ge.
           let Q : List StationState → Type 0 = λ xs. slice_get xs k ≡ Some b in

@@ -12,10 +12,10 @@
 //!   of a [`Pacer`]. [`run_term`] starts a thread for each worker at one desk, waits for all of them, closes the desk,
 //!   and returns a [`Term`].
 //!
-//! Two things need no comparison. No entry belongs to another actor: a desk and its seats share the parts of a ledger,
-//! which counts each deposit. When all parts are together, the journal is exactly as long as all seats' lists. The
-//! content of the lock belongs to the desk's own site, limit and number of actors: the ledger names them
-//! ([`DeskLedger`]), and the content's type says that they agree.
+//! Three things need no comparison. The journal is exactly as long as all seats' lists: a desk and its seats share the
+//! parts of a ledger, which counts each deposit. The content of the lock belongs to the desk's own site, limit and number
+//! of actors: the ledger names them ([`DeskLedger`]), and the content's type says that they agree. No entry belongs to
+//! another actor: a seat's type says that its actor is one of that desk's.
 //!
 //! [`run_terms`] runs terms in a row, and an [`Observer`] sees each report. [`one_life`] says what all terms come to,
 //! and [`terms_go_on`] how rows of terms join.

@@ -31,7 +31,7 @@ use dmr_wire::Port;
 use std::alloc::Global;
 use std::marker::Brand;
 use std::sync::Wait;
-use std::sync::ledger::{Blank, Ledger};
+use std::sync::ledger::Blank;
 use std::thread::Threads;
 
 /// Whether these are the stations of the plan's carriers among the last `many` carrier numbers, in the order of their
@@ -62,7 +62,7 @@ fn are_stations<P, G>(plan: &Plan, many: u32, stations: &[Station<P, G>]) -> boo
 
 /// Allocates room for the results of the workers of `stations` stations, the ticker and the console. On an error an
 /// allocation was refused.
-fn room_for<S: Drop, L: Ledger>(
+fn room_for<S: Drop, L: DeskLedger>(
     alloc: Global,
     stations: usize,
 ) -> Result<(Vec<LinkWork<S, L>>, HandedBack<S, L>), OutOfMemory>

@@ -19,13 +19,12 @@ use crate::ending::Ending;
 use crate::fault::TermFault;
 use crate::limits::MOST_ACTORS;
 use crate::pace::Pacer;
-use crate::report::{Journal, Report};
+use crate::report::{Journal, Report, Unreported};
 use crate::seat::Seat;
 use crate::station::Serving;
 use crate::threads::{AllWork, TickerAndConsole, Workers, run_workers};
 use arrayvec::ArrayVec;
 use std::sync::Wait;
-use std::sync::ledger::Ledger;
 use std::thread::Threads;
 
 /// The result of a term. All its workers have ended, and the desk returned its report.
@@ -72,7 +71,7 @@ fn find_early_actor(
 
 /// The workers' results, each kind in a list of its own.
 #[derive(Drop)]
-pub struct HandedBack<S, L: Ledger> {
+pub struct HandedBack<S, L: DeskLedger> {
     /// The stations.
     pub stations: Vec<S>,
     /// The seats.
@@ -82,7 +81,7 @@ pub struct HandedBack<S, L: Ledger> {
 }
 
 /// Splits the results of the carriers' workers, and appends them to `back`.
-fn split_works<S: Drop, L: Ledger>(
+fn split_works<S: Drop, L: DeskLedger>(
     mut works: Vec<LinkWork<S, L>>,
     back: HandedBack<S, L>,
 ) -> HandedBack<S, L>
@@ -115,7 +114,7 @@ fn split_works<S: Drop, L: Ledger>(
 }
 
 /// Splits the results of all workers: the carriers', then the ticker's, then the console's.
-fn split_all_works<S: Drop, T: Drop, C: Drop, L: Ledger>(
+fn split_all_works<S: Drop, T: Drop, C: Drop, L: DeskLedger>(
     all: AllWork<S, T, C, L>,
     back: HandedBack<S, L>,
 ) -> (HandedBack<S, L>, T, C)
@@ -205,7 +204,11 @@ where
     } = back;
     let report = match desk.close_in_threads(rt, seats) {
         Ok(report) => report,
-        Err(fault) => return Err(TermFault::Audit(fault)),
+        Err(unreported) => {
+            let Unreported { fault, kept } = unreported;
+            drop(kept);
+            return Err(TermFault::Audit(fault));
+        }
     };
     match find_early_actor(&report.journal, limit, &ends) {
         Some(actor) => {

@@ -42,7 +42,7 @@ returns-in-Err-clause-late g c = λ stations pacer console all ticked worked.
     let last_tick = c.args.all.ticker in
     let last = c.args.all.console in
     let back = c.split_all_works-back.ensures in
-    let refused = c.in-Err.ensures.fault in
+    let refused = (c.in-Err.unreported.kept, c.in-Err.ensures.fault) in
     let many : c.args.desk.actors ≡ length ds + 2 = let n = length-map ws (λ w. work_done (g.S.Serving.state w.station) w.seat w.ending) in let r = c.requires.actors in omega arith in
     is_unaudited c.args.desk _ _ stations ds pacer _ last_tick.seat last_tick.ending console (work_done (g.C.Serving.state last.station) last.seat last.ending)
     many refused

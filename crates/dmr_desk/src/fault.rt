@@ -42,7 +42,7 @@ pub enum TermFault {
     /// next asked whether the term is over. The events that the workers had deposited are lost with the site.
     #[error("a thread could not be started")]
     NoThread,
-    /// The workers have ended, and the desk returned no report.
+    /// The workers have ended, and the desk returned no report. It is proved that no seat is missing.
     #[error("no report: {0}")]
     Audit(CloseFault),
     /// The workers have ended, and this actor, the least such, received the answer that the term is over while the

@@ -1,9 +1,10 @@
 //! Running terms in a row: each begins with the state that the one before it left.
 
 ghost use Rattle.std.specs.Prelude.{◌≡◌, [], ◌∷◌, IfErr, IfOk, List, None, OnErr, Option, map};
+ghost use Rattle.std.specs.Prelude.{option_map};
 ghost use Rattle.dmr_core.specs.declared.entry.Entry.{Entry as AnEntry};
-ghost use Rattle.dmr_desk.specs.Refusing.{IsTermFault, left_at};
-ghost use Rattle.dmr_desk.specs.Term.{start_of_term};
+ghost use Rattle.dmr_desk.specs.Refusing.{IsEndAt, IsTermFault, left_at};
+ghost use Rattle.dmr_desk.specs.Term.{end_of_term, start_of_term};
 ghost use Rattle.dmr_desk.specs.Terms.{HaveRun, HaveStopped, Sees};
 ghost use Rattle.dmr_desk.specs.Work.{station_state};
 
@@ -91,7 +92,7 @@ where
 
 /// Runs one term, as [`try_term`] does, and has the observer see it. Returns the state that the term left. On an error
 /// the observer saw nothing, and the error has what is left: if no thread was started, all of `service`, so the same
-/// term can be tried again.
+/// term can be tried again; if all workers have ended, the term as they left it.
 pub fn try_next<P, G, T, C, O, R>(
     rt: &R,
     alloc: Global,
@@ -121,6 +122,14 @@ where
         refused.fault) }
     ensures left { IfErr result
         (λ refused. refused.left ≡ left_at refused.fault service) }
+    ensures ended { IfErr result (λ refused. IsEndAt (start_of_term service.site limit
+        (map (λ s. station_state s.link (P.reported s.port) (G.passed s.gate))
+        service.stations.items) (T.paced service.pacer)
+        (station_state service.console.link (C.reported service.console.port) None))
+        refused.fault (option_map (λ t. end_of_term t.report t.ends.items
+        (map (λ s. station_state s.link (P.reported s.port) (G.passed s.gate)) t.stations.items)
+        (T.paced t.pacer) (station_state t.console.link (C.reported t.console.port) None))
+        refused.ended)) }
     ensures unseen { OnErr result (O.seen observer.new ≡ O.seen observer.old) }
 {
     match try_term(rt, alloc, limit, service) {
@@ -171,8 +180,9 @@ where
         service = match try_next(rt, alloc, limit, service, observer) {
             Ok(next) => next,
             Err(refused) => {
-                let Refused { fault, left } = refused;
+                let Refused { fault, left, ended } = refused;
                 drop(left);
+                drop(ended);
                 return Err(TermsFault { done, fault });
             }
         };

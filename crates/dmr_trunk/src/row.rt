@@ -71,7 +71,8 @@ fn service_to_retry<P: Drop, G: Drop, T: Drop, C: Drop>(
     ensures fault { IfErr result (λ fault. fault ≡ refused.fault) }
     ensures memory { IfErr result (λ fault. fault ≡ Open OutOfMemory → done ≡ 0) }
 {
-    let Refused { fault, left } = refused;
+    let Refused { fault, left, ended } = refused;
+    drop(ended);
     match left {
         Some(service) => {
             if done > 0 && is_out_of_memory(fault) {

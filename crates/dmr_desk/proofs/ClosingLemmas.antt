@@ -1,10 +1,8 @@
 -- From seats and views to what closing shows.
-use Rattle.std.proofs.Common.{◌≡◌, ℕ, List, ◌++◌, ◌∷◌, [], length, reverse, arith, Option, Some, None, Result, Ok, Err, refl, sym, ap, ◌∙◌, subst, ◌<◌}
-use Rattle.std.specs.Prelude.{slice_get, All, Contains, IfOk, IfErr, IfSome}
-use Rattle.std.proofs.lemmas.List.Elements.{All-nil, All-cons, All-append}
+use Rattle.std.proofs.Common.{◌≡◌, ℕ, List, length, reverse, Option, Some, None, Result, Ok, Err, refl, sym, ◌∙◌, subst}
+use Rattle.std.specs.Prelude.{Contains, IfOk, IfErr, IfSome}
 use Rattle.std.proofs.lemmas.Option.{same_Some, slice_get_within}
 use Rattle.dmr_core.specs.declared.entry.Entry.{Entry}
-use Rattle.dmr_link.specs.declared.desk.Deposit.{Deposit}
 use Rattle.dmr_desk.specs.declared.report.Report.{Report}
 use Rattle.dmr_desk.specs.declared.report.Unreported.{Unreported}
 use Rattle.dmr_desk.specs.declared.fault.CloseFault.{CloseFault}
@@ -15,12 +13,6 @@ use Rattle.dmr_desk.specs.Seats.{SeatState, Opened}
 use Rattle.dmr_desk.specs.Views.{view_of}
 use Rattle.dmr_desk.specs.Audited.{AreGathered, IsAudited, IsDiffering, IsFault, IsFirstDiffering, IsKept, IsUnreported, count_of_deposits, deposits_of_seats}
 use Rattle.dmr_desk.proofs.ViewLemmas.{least_of_all, same_for_all}
-
--- one more entry of an actor of the desk
-pub known_more : (actors : ℕ) (entries : List Entry) (entry : Entry) → AreOfActors actors entries → entry.actor < actors → AreOfActors actors (entries ++ entry ∷ [])
-known_more actors entries entry known of_desk =
-    let P : Entry → Type 0 = λ e. e.actor < actors in
-    All-append P entries (entry ∷ []) known (All-cons P entry [] of_desk (All-nil P))
 
 -- what a desk keeps of a book, at exactly the site and limit that it was opened with
 pub kept_of_book : (pages : BookState) (actors : ℕ) (seats : List SeatState) (report : Report) → IsSoundBook pages → IsSafe pages.opening.plan pages.opening.facts (reverse pages.entries) → AreOfActors actors pages.entries

@@ -171,8 +171,11 @@ impl<L: DeskLedger> Locked<L> {
     {
         match self.gather(seats) {
             Ok(kept) => {
-                let differing =
-                    first_differing_in_threads(rt, &kept.views, kept.journal.as_slice());
+                let differing = first_differing_in_threads(
+                    rt,
+                    &kept.views,
+                    kept.journal.as_slice(),
+                );
                 audit_report(kept, differing)
             }
             Err(actor) => Err(Unreported {

@@ -50,13 +50,3 @@ pub enum TermFault {
     #[error("actor {0} was told too early that the term is over")]
     Early(u8),
 }
-
-/// Why `run_terms` returns no state: one of its terms failed. The state is lost with that term.
-#[derive(Clone, Copy, PartialEq, Eq, Debug, Error)]
-#[error("after {done} terms: {fault}")]
-pub struct TermsFault {
-    /// The number of terms before it. They ended and were audited, and the observer saw their reports.
-    pub done: u32,
-    /// Why the term failed.
-    pub fault: TermFault,
-}

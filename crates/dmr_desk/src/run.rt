@@ -1,15 +1,16 @@
 //! Running a term.
 
-ghost use Rattle.std.specs.Prelude.{◌≡◌, ◌+◌, ◌-◌, ◌≤◌, ◌↔◌, ℕ, [], IfErr, IfOk, IsTrue, None};
+ghost use Rattle.std.specs.Prelude.{◌≡◌, ◌+◌, ◌-◌, ◌≤◌, ◌↔◌, ℕ, [], IfErr, IfOk, IsTrue};
 ghost use Rattle.std.specs.Prelude.{OnOk, Some, map, option_map, slice_get, true, vec_capacity};
 ghost use Rattle.std.specs.Prelude.{vec_len};
 ghost use Rattle.dmr_desk.specs.Limits.{most_actors};
 ghost use Rattle.dmr_desk.specs.Opening.{IsLimit};
-ghost use Rattle.dmr_desk.specs.Refusing.{AreStations, IsEndAt, IsFaultFor, IsTermFault};
+ghost use Rattle.dmr_desk.specs.Refusing.{IsEndAt, IsFaultFor, IsTermFault};
 ghost use Rattle.dmr_desk.specs.Refusing.{carrier_of_peer, left_at, numbers_from, starts_threads};
 ghost use Rattle.dmr_desk.specs.Seats.{empty_seats};
+ghost use Rattle.dmr_desk.specs.Service.{AreShut, console_of, end_at, start_at, states_of};
 ghost use Rattle.dmr_desk.specs.Term.{IsTerm, end_of_term, start_of_term};
-ghost use Rattle.dmr_desk.specs.Work.{station_state};
+ghost use Rattle.dmr_desk.specs.Terms.{Fits};
 
 use crate::actors::LinkWork;
 use crate::desk::SharedDesk;
@@ -173,33 +174,20 @@ where
       limit = limit;
       actors = vec_len service.stations + 2;
     } }
-    ensures term { IfOk result (λ t. IsTerm (start_of_term service.site limit
-        (map (λ s. station_state s.link (P.reported s.port) (G.passed s.gate))
-        service.stations.items) (T.paced service.pacer)
-        (station_state service.console.link (C.reported service.console.port) None))
-        (end_of_term t.report t.ends.items
-        (map (λ s. station_state s.link (P.reported s.port) (G.passed s.gate)) t.stations.items)
-        (T.paced t.pacer) (station_state t.console.link (C.reported t.console.port) None))) }
-    ensures shut { IfOk result (λ t. (k : ℕ) (s : _) → slice_get t.stations.items k ≡ Some s
-        → slice_get t.ends.items k ≡ Some Ending.GateShut → (before : _) × G.shuts before s.gate) }
+    ensures term { IfOk result (λ t. IsTerm
+        (start_at P.reported G.passed T.paced C.reported limit service)
+        (end_at P.reported G.passed T.paced C.reported t)) }
+    ensures shut { IfOk result (AreShut G.shuts) }
     ensures open { IfOk result
         (λ t. slice_get t.ends.items (vec_len service.stations + 1) ≡ Some Ending.GateShut
         → ⊥) }
-    ensures fault { IfErr result (λ refused. IsFaultFor (start_of_term service.site limit
-        (map (λ s. station_state s.link (P.reported s.port) (G.passed s.gate))
-        service.stations.items) (T.paced service.pacer)
-        (station_state service.console.link (C.reported service.console.port) None))
-        refused.fault) }
+    ensures fault { IfErr result (λ refused. IsFaultFor
+        (start_at P.reported G.passed T.paced C.reported limit service) refused.fault) }
     ensures left { IfErr result
         (λ refused. refused.left ≡ left_at refused.fault service) }
-    ensures ended { IfErr result (λ refused. IsEndAt (start_of_term service.site limit
-        (map (λ s. station_state s.link (P.reported s.port) (G.passed s.gate))
-        service.stations.items) (T.paced service.pacer)
-        (station_state service.console.link (C.reported service.console.port) None))
-        refused.fault (option_map (λ t. end_of_term t.report t.ends.items
-        (map (λ s. station_state s.link (P.reported s.port) (G.passed s.gate)) t.stations.items)
-        (T.paced t.pacer) (station_state t.console.link (C.reported t.console.port) None))
-        refused.ended)) }
+    ensures ended { IfErr result (λ refused. IsEndAt
+        (start_at P.reported G.passed T.paced C.reported limit service) refused.fault
+        (option_map (end_at P.reported G.passed T.paced C.reported) refused.ended)) }
 {
     let Service {
         site,
@@ -272,38 +260,23 @@ where
     T: Pacer + Send + Drop,
     C: Port + Send + Drop,
     R: Wait + Threads + Sync,
-    ensures term { IfOk result (λ t. IsTerm (start_of_term service.site limit
-        (map (λ s. station_state s.link (P.reported s.port) (G.passed s.gate))
-        service.stations.items) (T.paced service.pacer)
-        (station_state service.console.link (C.reported service.console.port) None))
-        (end_of_term t.report t.ends.items
-        (map (λ s. station_state s.link (P.reported s.port) (G.passed s.gate)) t.stations.items)
-        (T.paced t.pacer) (station_state t.console.link (C.reported t.console.port) None))) }
-    ensures shut { IfOk result (λ t. (k : ℕ) (s : _) → slice_get t.stations.items k ≡ Some s
-        → slice_get t.ends.items k ≡ Some Ending.GateShut → (before : _) × G.shuts before s.gate) }
+    ensures term { IfOk result (λ t. IsTerm
+        (start_at P.reported G.passed T.paced C.reported limit service)
+        (end_at P.reported G.passed T.paced C.reported t)) }
+    ensures shut { IfOk result (AreShut G.shuts) }
     ensures open { IfOk result
         (λ t. slice_get t.ends.items (vec_len service.stations + 1) ≡ Some Ending.GateShut
         → ⊥) }
-    ensures fault { IfErr result (λ refused. IsTermFault (start_of_term service.site limit
-        (map (λ s. station_state s.link (P.reported s.port) (G.passed s.gate))
-        service.stations.items) (T.paced service.pacer)
-        (station_state service.console.link (C.reported service.console.port) None))
-        refused.fault) }
+    ensures fault { IfErr result (λ refused. IsTermFault
+        (start_at P.reported G.passed T.paced C.reported limit service) refused.fault) }
     // All of the service is as it was: the site, the links' states and the ports' records among the rest.
     ensures left { IfErr result
         (λ refused. refused.left ≡ left_at refused.fault service) }
     // At `Early` this term is what the worker's answers, the ports and the pacer made of it. It is not chosen by the body.
-    ensures ended { IfErr result (λ refused. IsEndAt (start_of_term service.site limit
-        (map (λ s. station_state s.link (P.reported s.port) (G.passed s.gate))
-        service.stations.items) (T.paced service.pacer)
-        (station_state service.console.link (C.reported service.console.port) None))
-        refused.fault (option_map (λ t. end_of_term t.report t.ends.items
-        (map (λ s. station_state s.link (P.reported s.port) (G.passed s.gate)) t.stations.items)
-        (T.paced t.pacer) (station_state t.console.link (C.reported t.console.port) None))
-        refused.ended)) }
-    ensures fits { OnOk result (AreStations service.site.plan
-        (map (λ s. station_state s.link (P.reported s.port) (G.passed s.gate))
-        service.stations.items) × IsLimit limit) }
+    ensures ended { IfErr result (λ refused. IsEndAt
+        (start_at P.reported G.passed T.paced C.reported limit service) refused.fault
+        (option_map (end_at P.reported G.passed T.paced C.reported) refused.ended)) }
+    ensures fits { OnOk result (Fits (start_at P.reported G.passed T.paced C.reported limit service)) }
 {
     if !are_stations(service.site.plan(), 16, service.stations.as_slice()) {
         return Err(Refused {
@@ -346,22 +319,19 @@ where
     C: Port + Send + Drop,
     R: Wait + Threads + Sync,
     ensures term { IfOk result (λ t. IsTerm (start_of_term site limit
-        (map (λ s. station_state s.link (P.reported s.port) (G.passed s.gate)) stations.items)
-        (T.paced pacer) (station_state console.link (C.reported console.port) None))
-        (end_of_term t.report t.ends.items
-        (map (λ s. station_state s.link (P.reported s.port) (G.passed s.gate)) t.stations.items)
-        (T.paced t.pacer) (station_state t.console.link (C.reported t.console.port) None))) }
-    ensures shut { IfOk result (λ t. (k : ℕ) (s : _) → slice_get t.stations.items k ≡ Some s
-        → slice_get t.ends.items k ≡ Some Ending.GateShut → (before : _) × G.shuts before s.gate) }
+        (states_of P.reported G.passed stations.items) (T.paced pacer)
+        (console_of C.reported console))
+        (end_at P.reported G.passed T.paced C.reported t)) }
+    ensures shut { IfOk result (AreShut G.shuts) }
     ensures open { IfOk result
         (λ t. slice_get t.ends.items (vec_len stations + 1) ≡ Some Ending.GateShut
         → ⊥) }
     ensures fault { IfErr result (IsTermFault (start_of_term site limit
-        (map (λ s. station_state s.link (P.reported s.port) (G.passed s.gate)) stations.items)
-        (T.paced pacer) (station_state console.link (C.reported console.port) None))) }
-    ensures fits { OnOk result (AreStations site.plan
-        (map (λ s. station_state s.link (P.reported s.port) (G.passed s.gate)) stations.items)
-        × IsLimit limit) }
+        (states_of P.reported G.passed stations.items) (T.paced pacer)
+        (console_of C.reported console))) }
+    ensures fits { OnOk result (Fits (start_of_term site limit
+        (states_of P.reported G.passed stations.items) (T.paced pacer)
+        (console_of C.reported console))) }
 {
     let service = Service {
         site,

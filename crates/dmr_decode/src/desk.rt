@@ -2,7 +2,7 @@
 //! desk keeps both, so that the judgement can be printed.
 
 ghost use Rattle.std.specs.Prelude.{◌≡◌, ◌<◌, [], ◌∷◌, ◌++◌, vec_len, vec_capacity, IfOk, IfErr};
-ghost use Rattle.std.specs.Prelude.{OnOk};
+ghost use Rattle.std.specs.Prelude.{None, OnOk};
 ghost use Rattle.dmr_core.specs.Facts.{facts_after, no_facts};
 ghost use Rattle.dmr_core.specs.Journal.{unattributed_entry};
 ghost use Rattle.dmr_core.specs.Rules.{acts_of};
@@ -119,6 +119,8 @@ impl Desk for SiteDesk {
     ghost actor = { λ d. 0 };
 
     ghost calls = { λ d. d.taken };
+
+    ghost questions = { λ d. None };
 
     ghost refuses = { λ d event over f. f ≡ d };
 

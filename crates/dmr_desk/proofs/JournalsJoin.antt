@@ -65,27 +65,27 @@ one_journal start (end ∷ earlier) are =
     let P : SiteState → Type 0 = λ s. IsLegal s.plan s.facts (reverse end.journal) in
     let Q : List Entry → Type 0 = λ j. IsLegal start.site.plan start.site.facts j in
     let site_with : Facts → SiteState = λ f. record { plan = start.site.plan; facts = f } in (
-      subst Q (sym both) (legal_append plan facts (reverse end.journal) (reverse (joined_journal earlier)) before.0 (subst P before.1 run.legal)),
-      run.site ∙ ap (λ (s : SiteState). site_after_entries s end.journal) before.1
+      subst Q (sym both) (legal_append plan facts (reverse end.journal) (reverse (joined_journal earlier)) before.0 (subst P before.1 run.ended.legal)),
+      run.ended.site ∙ ap (λ (s : SiteState). site_after_entries s end.journal) before.1
           ∙ ap site_with (sym (facts_append plan facts (reverse end.journal) (reverse (joined_journal earlier))) ∙ ap (facts_after plan facts) (sym both)),
     )
 
 pub stations_stay : (start : Start) (ends : List End) → AreTerms start ends → length (start_after start ends).stations ≡ length start.stations
 stations_stay start [] are = refl
-stations_stay start (end ∷ earlier) are = are.0.run.handed_back ∙ stations_stay start earlier are.1
+stations_stay start (end ∷ earlier) are = are.0.run.ended.handed_back ∙ stations_stay start earlier are.1
 
 pub nobody_else : (start : Start) (ends : List End) → AreTerms start ends → All (λ (entry : Entry). entry.actor < length start.stations + 2) (joined_journal ends)
 nobody_else start [] are = All-nil (λ (entry : Entry). entry.actor < length start.stations + 2)
 nobody_else start (end ∷ earlier) are =
     let run = are.0.run in
     let P : ℕ → Type 0 = λ n. All (λ (entry : Entry). entry.actor < n) end.journal in
-    let many : length end.views ≡ length start.stations + 2 = run.actors ∙ ap (λ (n : ℕ). n + 2) (stations_stay start earlier are.1) in
-    All-append (λ (entry : Entry). entry.actor < length start.stations + 2) (joined_journal earlier) end.journal (nobody_else start earlier are.1) (subst P many run.nobody)
+    let many : length end.views ≡ length start.stations + 2 = run.ended.actors ∙ ap (λ (n : ℕ). n + 2) (stations_stay start earlier are.1) in
+    All-append (λ (entry : Entry). entry.actor < length start.stations + 2) (joined_journal earlier) end.journal (nobody_else start earlier are.1) (subst P many run.ended.nobody)
 
 pub each_within : (start : Start) (ends : List End) → AreTerms start ends → All (λ (end : End). length end.journal ≤ start.limit) ends
 each_within start [] are = All-nil (λ (end : End). length end.journal ≤ start.limit)
 each_within start (end ∷ earlier) are =
-    let w = are.0.run.within in
+    let w = are.0.run.ended.within in
     let l = limit_stays start earlier in
     All-cons (λ (end : End). length end.journal ≤ start.limit) end earlier (omega arith) (each_within start earlier are.1)
 
@@ -104,7 +104,7 @@ pub views_joined : (start : Start) (ends : List End) (actor : ℕ) → AreTerms 
 views_joined start [] actor are low = refl
 views_joined start (end ∷ earlier) actor are low =
     let run = are.0.run in
-    let many = run.actors in
+    let many = run.ended.actors in
     let stay = stations_stay start earlier are.1 in
     let own : slice_index_or end.views actor [] ≡ view_of actor end.journal = get_or_from_slice_get end.views actor (view_of actor end.journal) [] (run.views actor (omega arith)) in
     (λ i. views_joined start earlier actor are.1 low i ++ own i) ∙ sym (view_append actor (joined_journal earlier) end.journal)

@@ -1,6 +1,5 @@
 mod ViewLemmas
 mod SeatLemmas
-mod NoOtherActors
 mod ClosingLemmas
 mod TickerLemmas
 mod WorkerLemmas

@@ -1,14 +1,15 @@
 -- Stations of a plan, and faults.
 use Rattle.std.proofs.Common.{◌≡◌, ℕ, zero, suc, ◌+◌, ◌≤◌, Bool, true, false, cond, List, [], ◌∷◌, Option, Some, None, Result, Ok, Err, length, map, refl, sym, ◌∙◌, ap, arith}
 use Rattle.std.specs.Prelude.{IfOk, IfErr, OnOk}
+use Rattle.std.proofs.lemmas.Bool.{false≢true}
 use Rattle.std.proofs.lemmas.List.{length-map}
 use Rattle.dmr_core.specs.Facts.{has_carrier}
 use Rattle.dmr_plan.specs.declared.settings.Settings.{Settings}
 use Rattle.dmr_desk.specs.declared.fault.TermFault.{TermFault}
 use Rattle.dmr_desk.specs.declared.fault.TermFault.TheVariants.{BadStations, Open, NoThread, Audit, Early}
 use Rattle.dmr_desk.specs.Opening.{IsLimit}
-use Rattle.dmr_desk.specs.Term.{Start}
-use Rattle.dmr_desk.specs.Refusing.{AreStations, IsFaultFor, IsLate, IsTermFault, carrier_of_peer, numbers_from, carrier_numbers, left_at, starts_threads}
+use Rattle.dmr_desk.specs.Term.{Start, End}
+use Rattle.dmr_desk.specs.Refusing.{AreStations, IsEndAt, IsFaultFor, IsTermFault, is_late, carrier_of_peer, numbers_from, carrier_numbers, left_at, starts_threads}
 use Rattle.dmr_desk.specs.Work.{StationState}
 
 -- ---- the plan's numbers
@@ -50,20 +51,22 @@ few_stations at xs plan are =
 
 -- ---- faults
 
-pub late_fault : (start : Start) (fault : TermFault) → IsLimit start.limit → IsLate start fault → IsFaultFor start fault
-late_fault start BadStations is late = absurd late
-late_fault start (Open fault) is late = absurd late
-late_fault start NoThread is late = absurd late
-late_fault start (Audit fault) is late = (is, late)
-late_fault start (Early actor) is late = (is, late)
+-- a fault that is found when all workers have ended, with the end to which it applies
+pub late_fault : (start : Start) (fault : TermFault) (ended : Option End) → IsLimit start.limit → is_late fault ≡ true → IsEndAt start fault ended → IsFaultFor start fault
+late_fault start fault None is late at = absurd (false≢true (sym at ∙ late))
+late_fault start BadStations (Some end) is late at = absurd at
+late_fault start (Open why) (Some end) is late at = absurd at
+late_fault start NoThread (Some end) is late at = absurd at
+late_fault start (Audit why) (Some end) is late at = (is, end, at)
+late_fault start (Early actor) (Some end) is late at = (is, end, at)
 
 -- such a fault comes after threads were started, so nothing is left of the arguments
-pub late_starts : (start : Start) (fault : TermFault) → IsLate start fault → starts_threads fault ≡ true
-late_starts start BadStations late = absurd late
-late_starts start (Open fault) late = absurd late
-late_starts start NoThread late = refl
-late_starts start (Audit fault) late = refl
-late_starts start (Early actor) late = refl
+pub late_starts : (fault : TermFault) → is_late fault ≡ true → starts_threads fault ≡ true
+late_starts BadStations late = absurd (false≢true late)
+late_starts (Open fault) late = absurd (false≢true late)
+late_starts NoThread late = refl
+late_starts (Audit fault) late = refl
+late_starts (Early actor) late = refl
 
 pub nothing_left : {A : Type 0} (fault : TermFault) (given : A) → starts_threads fault ≡ true → None ≡ left_at fault given
 nothing_left BadStations given e = absurd cc
@@ -94,3 +97,7 @@ if_ok_map (Err e) P Q f h = tt
 pub if_err_map : {T E : Type 0} (result : Result T E) (P Q : E → Type 0) → ((e : E) → P e → Q e) → IfErr result P → IfErr result Q
 if_err_map (Ok t) P Q f h = tt
 if_err_map (Err e) P Q f h = f e h
+
+pub if_err_both : {T E : Type 0} (result : Result T E) (P Q R : E → Type 0) → ((e : E) → P e → Q e → R e) → IfErr result P → IfErr result Q → IfErr result R
+if_err_both (Ok t) P Q R f h k = tt
+if_err_both (Err e) P Q R f h k = f e h k

@@ -2,10 +2,8 @@
 use Rattle.std.proofs.Common.{◌≡◌, ℕ, ◌+◌, ◌<◌, List, [], ◌∷◌, ◌++◌, Option, refl, sym, ◌∙◌, ap, subst, append_assoc, length, length-append, arith}
 use Rattle.std.proofs.lemmas.List.{append-nil}
 use Rattle.dmr_core.specs.declared.entry.Entry.{Entry}
-use Rattle.dmr_desk.specs.declared.fault.TermsFault.{TermsFault}
-use Rattle.dmr_desk.specs.Refusing.{IsTermFault}
 use Rattle.dmr_desk.specs.Term.{Start, End, IsTerm}
-use Rattle.dmr_desk.specs.Terms.{next_start, start_after, AreTerms, journals_of, Sees, Fits, HaveRun, HaveStopped}
+use Rattle.dmr_desk.specs.Terms.{next_start, start_after, AreTerms, journals_of, Sees, Fits, HaveRun}
 
 -- ---- the chain
 
@@ -31,9 +29,6 @@ journals_on : (earlier later : List End) → journals_of (later ++ earlier) ≡ 
 journals_on earlier [] = sym (append-nil (journals_of earlier))
 journals_on earlier (end ∷ later) = ap (λ (js : List (List Entry)). js ++ end.journal ∷ []) (journals_on earlier later) ∙ append_assoc (journals_of earlier) (journals_of later) (end.journal ∷ [])
 
-sees_nothing : (before : Option (List (List Entry))) → Sees before [] before
-sees_nothing before = record { follows = λ whole same. (whole, same, sym (append-nil whole)) }
-
 sees_more : (before between after : Option (List (List Entry))) (first second : List (List Entry)) → Sees before first between → Sees between second after → Sees before (first ++ second) after
 sees_more before between after first second one two = record {
   follows = λ whole same.
@@ -47,12 +42,6 @@ sees_more before between after first second one two = record {
 fits_on : (start middle : Start) (ends : List End) (n m : ℕ) → length ends ≡ n → middle ≡ start_after start ends → (0 < n → Fits start) → (0 < m → Fits middle) → 0 < n + m → Fits start
 fits_on start middle [] n m count is first second some = let P : Start → Type 0 = λ s. Fits s in subst P is (second (omega arith))
 fits_on start middle (end ∷ ends) n m count is first second some = first (omega arith)
-
-pub ran_none : (start : Start) (seen : Option (List (List Entry))) → HaveRun start 0 start seen seen
-ran_none start seen = record { ends = []; are = tt; count = refl; next_is = refl; seen = sees_nothing seen; fits = λ some. absurd (omega arith) }
-
-pub ran_one : (start next : Start) (end : End) (before after : Option (List (List Entry))) → IsTerm start end → Fits start → next ≡ next_start start.limit end → Sees before (end.journal ∷ []) after → HaveRun start 1 next before after
-ran_one start next end before after is fits same sees = record { ends = end ∷ []; are = (is, tt); count = refl; next_is = same; seen = sees; fits = λ some. fits }
 
 pub ran_on : (start middle next : Start) (n m : ℕ) (before between after : Option (List (List Entry))) → HaveRun start n middle before between → HaveRun middle m next between after → HaveRun start (n + m) next before after
 ran_on start middle next n m before between after one two =
@@ -69,10 +58,3 @@ ran_on start middle next n m before between after one two =
       seen = subst Q (sym (journals_on one.ends two.ends)) (sees_more before between after (journals_of one.ends) (journals_of two.ends) one.seen two.seen);
       fits = fits_on start middle one.ends n m one.count one.next_is one.fits two.fits;
     }
-
--- the term after these failed, and the observer saw nothing of it
-pub stopped : (start next : Start) (terms : ℕ) (fault : TermsFault) (before between after : Option (List (List Entry))) → HaveRun start fault.done next before between → after ≡ between → fault.done < terms → IsTermFault next fault.fault
-    → HaveStopped start terms fault before after
-stopped start next terms fault before between after run unseen fewer why =
-    let P : Option (List (List Entry)) → Type 0 = λ seen. HaveRun start fault.done next before seen in
-    record { next = next; run = subst P (sym unseen) run; fewer = fewer; why = why }

@@ -61,7 +61,8 @@ ticker_works start (end ∷ earlier) are =
     let run = are.0.run in
     let middle = start_after start earlier in
     let stay = stations_stay start earlier are.1 in
-    let ended = run.all_ended in
+    let ended = run.ended.all_ended in
+    let many = run.ended.actors in
     let ending = get_within end.ends (length (start_after start earlier).stations) (omega arith) in
     let own : view_of (length (start_after start earlier).stations) end.journal ≡ view_of (length start.stations) end.journal = ap (λ (n : ℕ). view_of n end.journal) stay in
     let view : view_of (length start.stations) (joined_journal earlier) ++ view_of (length (start_after start earlier).stations) end.journal ≡ view_of (length start.stations) (joined_journal earlier ++ end.journal) =
@@ -70,4 +71,4 @@ ticker_works start (end ∷ earlier) are =
     let P : List Deposit → Type 0 = λ v. HasTickedOn (length earlier + 1) start.pacer end.pacer v in
     let Q : ℕ → Type 0 = λ n. HasTickedOn n start.pacer end.pacer (view_of (length start.stations) (joined_journal earlier ++ end.journal)) in
     subst Q count (subst P view (ticked_on start.pacer middle.pacer end.pacer (length earlier) 1 (view_of (length start.stations) (joined_journal earlier)) (view_of (length (start_after start earlier).stations) end.journal)
-    (ticker_works start earlier are.1) (ticked_once middle.pacer end.pacer (view_of (length (start_after start earlier).stations) end.journal) ending.0 (run.ticker ending.0 ending.1))))
+    (ticker_works start earlier are.1) (ticked_once middle.pacer end.pacer (view_of (length (start_after start earlier).stations) end.journal) ending.0 (run.ended.ticker ending.0 (view_of (length (start_after start earlier).stations) end.journal) ending.1 (run.views (length (start_after start earlier).stations) (omega arith))))))

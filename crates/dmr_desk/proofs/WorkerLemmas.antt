@@ -1,5 +1,5 @@
 -- A worker's steps, one after another.
-use Rattle.std.proofs.Common.{◌≡◌, ℕ, ◌+◌, ◌-◌, cond, List, [], ◌∷◌, ◌++◌, Option, None, refl, sym, ◌∙◌, ap, subst, append_assoc, arith, true, false, Bool, ◌||◌, length, map}
+use Rattle.std.proofs.Common.{◌≡◌, ℕ, ◌+◌, ◌-◌, inl, inr, cond, List, [], ◌∷◌, ◌++◌, Option, Some, None, refl, sym, ◌∙◌, ap, subst, append_assoc, arith, true, false, Bool, ◌||◌, length, map}
 use Rattle.std.specs.Prelude.{nat_lt}
 use Rattle.std.proofs.lemmas.List.{append-nil}
 use Rattle.dmr_wire.specs.Answers.{Answer, Opened, NotYet, Finished, Came, InputEnded, ReadInterrupted, ReadBlocked, ReadFailed, Took, WriteInterrupted, WriteBlocked, WriteFailed, Again, Silent, Reports}
@@ -11,12 +11,13 @@ use Rattle.dmr_link.specs.declared.link_state.LinkState.{LinkState}
 use Rattle.dmr_link.specs.Happenings.{Happening, Answered, Deposited, Passed, answers_in, deposits_in, passages_in}
 use Rattle.dmr_link.specs.Passages.{Passage, Passes}
 use Rattle.dmr_link.specs.Peers.{is_going}
+use Rattle.dmr_link.specs.Questions.{Questioned}
 use Rattle.dmr_link.specs.Recorded.{sessions_after_silence}
 use Rattle.dmr_link.specs.Sessions.{How, Going, InputOver, ReadFaulty, WriteFaulty, CutAfter, how_then, Session, new_session, with_how, with_calls, Progress, progress_at, in_writing, octets_taken, progress_after_answer, progress_after_answers, IsQuiet, IsOver, HasPast, sessions_after, is_kept, is_lost, how_cut, cut_past, EndsAs, Sides, Happens, Serves, Cuts}
 use Rattle.dmr_link.specs.LinkSteps.{is_live}
 use Rattle.dmr_link.proofs.LinkLaws.{dead_over, over_dead, happens_none, happens_more}
 use Rattle.dmr_desk.specs.declared.ending.Ending.TheVariants as ending
-use Rattle.dmr_desk.specs.Work.{StationState, WorkState, work_state, sides_at, Answers, ChangesLink, Step, Asked, Served, Waited, happened_in, happened_of, with_newest_deposits, past_then, past_after, deposits_of_sessions, IsAsk, StopsAt, IsCall, IsOrderly, Steps, WorksUntil, IsAboutToWait as IsWaiting, IsAtWork as IsGoing}
+use Rattle.dmr_desk.specs.Work.{StationState, WorkState, moment, sides_at, Answers, ChangesLink, Step, Asked, Served, Waited, happened_in, happened_of, with_newest_deposits, past_then, past_after, deposits_of_sessions, IsAsk, StopsAt, IsCall, IsOrderly, Steps, WorksUntil, IsAboutToWait as IsWaiting, IsAtWork as IsGoing}
 
 going_live : (b kept lost : Bool) → (b ≡ false → ⊥) → (b || kept || lost) ≡ true
 going_live true kept lost h = refl
@@ -36,8 +37,35 @@ went_nowhere m = record {
   orderly = λ past h. tt;
 }
 
+-- ---- questions to the desk
+
+questioned_none : (a : Option ℕ) → Questioned a 0 a
+questioned_none None = tt
+questioned_none (Some n) = omega arith
+
+questioned_then : (a b c : Option ℕ) (n m : ℕ) → Questioned a n b → Questioned b m c → Questioned a (n + m) c
+questioned_then a b None n m h k = tt
+questioned_then a None (Some z) n m h k = absurd k
+questioned_then None (Some y) (Some z) n m h k = absurd h
+questioned_then (Some x) (Some y) (Some z) n m h k = omega arith
+
+-- one more question, and one more step
+one_more : (a b c : Option ℕ) (d : Step) (ds : List Step) → Questioned a (length ds) b → Questioned b 1 c → Questioned a (length (d ∷ ds)) c
+one_more a b c d ds h k =
+    let e : length ds + 1 ≡ length (d ∷ ds) = omega arith in
+    let P : ℕ → Type 0 = λ n. Questioned a n c in
+    subst P e (questioned_then a b c (length ds) 1 h k)
+
+-- nothing has changed since
+pub unquestioned : (a b c : Option ℕ) → c ≡ b → Questioned a 1 b → Questioned a 1 c
+unquestioned a b c same h = let P : Option ℕ → Type 0 = λ o. Questioned a 1 o in subst P (sym same) h
+
+-- the same steps, whatever the desk counts
+steps_at : (m n : WorkState) (q : Option ℕ) (ds : List Step) → Steps m n ds → Steps m (moment n.at n.calls q) ds
+steps_at m n q ds w = record { who = w.who; happens = w.happens; stands = w.stands; view = w.view; orderly = w.orderly }
+
 pub going_from : (m : WorkState) → IsGoing m m
-going_from m = ([], went_nowhere m, λ live. tt)
+going_from m = ([], went_nowhere m, λ live. tt, questioned_none m.questions)
 
 deposits_both : (xs ys : List Happening) → deposits_in (xs ++ ys) ≡ deposits_in xs ++ deposits_in ys
 deposits_both [] ys = refl
@@ -151,28 +179,31 @@ went_asking m n o g x dead is who reported passed desk stands =
 still_has_past : (l k : LinkState) (past : List Session) → k ≡ l → HasPast l past → HasPast k past
 still_has_past l k past same h = let P : LinkState → Type 0 = λ t. HasPast t past in subst P (sym same) h
 
-pub went_ready : (m n : WorkState) (mid o : StationState) → IsGoing m n → is_live n.at.link ≡ false → Answers n.at Opened mid → ChangesLink mid o
-    → ((past : List Session) → HasPast mid.link past → HasPast o.link (new_session ∷ past)) → IsGoing m (work_state o n.calls)
-went_ready m n mid o g dead answers turns stands =
+pub went_ready : (m n : WorkState) (mid o : StationState) (q : Option ℕ) → IsGoing m n → Questioned n.questions 1 q → is_live n.at.link ≡ false → Answers n.at Opened mid → ChangesLink mid o
+    → ((past : List Session) → HasPast mid.link past → HasPast o.link (new_session ∷ past)) → IsGoing m (moment o n.calls q)
+went_ready m n mid o q g asked dead answers turns stands =
     let P : Option (List Answer) → Type 0 = λ reported. Reports n.at.reported (Opened ∷ []) reported in (
       Asked Opened ∷ g.0,
-      went_asking m n (work_state o n.calls) g Opened dead tt (turns.who ∙ ap (λ (l : LinkState). l.who) answers.link) (subst P (sym turns.reported) answers.reported) (turns.passed ∙ answers.passed) refl
+      went_asking m n (moment o n.calls q) g Opened dead tt (turns.who ∙ ap (λ (l : LinkState). l.who) answers.link) (subst P (sym turns.reported) answers.reported) (turns.passed ∙ answers.passed) refl
           (λ past h. stands past (still_has_past n.at.link mid.link past answers.link h)),
       λ live. tt,
+      one_more m.questions n.questions q (Asked Opened) g.0 g.3 asked,
     )
 
-pub went_not_yet : (m n : WorkState) (o : StationState) → IsGoing m n → is_live n.at.link ≡ false → Answers n.at NotYet o → IsGoing m (work_state o n.calls)
-went_not_yet m n o g dead answers = (
+pub went_not_yet : (m n : WorkState) (o : StationState) (q : Option ℕ) → IsGoing m n → Questioned n.questions 1 q → is_live n.at.link ≡ false → Answers n.at NotYet o → IsGoing m (moment o n.calls q)
+went_not_yet m n o q g asked dead answers = (
   Asked NotYet ∷ g.0,
-  went_asking m n (work_state o n.calls) g NotYet dead tt (ap (λ (l : LinkState). l.who) answers.link) answers.reported answers.passed refl (λ past h. still_has_past n.at.link o.link past answers.link h),
+  went_asking m n (moment o n.calls q) g NotYet dead tt (ap (λ (l : LinkState). l.who) answers.link) answers.reported answers.passed refl (λ past h. still_has_past n.at.link o.link past answers.link h),
   λ live. let e : is_live o.link ≡ false = ap is_live answers.link ∙ dead in absurd (cc (e, live)),
+  one_more m.questions n.questions q (Asked NotYet) g.0 g.3 asked,
 )
 
-pub went_finished : (m n : WorkState) (o : StationState) → IsGoing m n → is_live n.at.link ≡ false → Answers n.at Finished o → WorksUntil m (work_state o n.calls) ending.Finished
-went_finished m n o g dead answers = (
+pub went_finished : (m n : WorkState) (o : StationState) (q : Option ℕ) → IsGoing m n → Questioned n.questions 1 q → is_live n.at.link ≡ false → Answers n.at Finished o → WorksUntil m (moment o n.calls q) ending.Finished
+went_finished m n o q g asked dead answers = (
   Asked Finished ∷ g.0,
-  went_asking m n (work_state o n.calls) g Finished dead tt (ap (λ (l : LinkState). l.who) answers.link) answers.reported answers.passed refl (λ past h. still_has_past n.at.link o.link past answers.link h),
+  went_asking m n (moment o n.calls q) g Finished dead tt (ap (λ (l : LinkState). l.who) answers.link) answers.reported answers.passed refl (λ past h. still_has_past n.at.link o.link past answers.link h),
   (tt, subst IsOver (sym answers.link) (dead_over n.at.link dead)),
+  one_more m.questions n.questions q (Asked Finished) g.0 g.3 asked,
 )
 
 -- ---- a call of serve
@@ -207,17 +238,17 @@ went_serving m n o e g live s =
     (λ past h. serve_view n.at.link past (answers_in s.happened) (deposits_in s.happened) live h)
     (λ past h orderly. (was_call n o m.at.link.who (past_after past g.0) e s g.1.who h, g.2 live, orderly))
 
-pub went_idle : (m n o : WorkState) → IsGoing m n → is_live n.at.link ≡ true → Serves n.at.link o.at.link (sides_at n.at n.calls) (sides_at o.at o.calls) ended.Idle → IsWaiting m o
-went_idle m n o g live s = (Served s.happened ended.Idle ∷ g.0, went_serving m n o ended.Idle g live s, tt, s.ends.0, s.ends.1)
+pub went_idle : (m n o : WorkState) → IsGoing m n → Questioned n.questions 1 o.questions → is_live n.at.link ≡ true → Serves n.at.link o.at.link (sides_at n.at n.calls) (sides_at o.at o.calls) ended.Idle → IsWaiting m o
+went_idle m n o g asked live s = (Served s.happened ended.Idle ∷ g.0, went_serving m n o ended.Idle g live s, tt, s.ends.0, s.ends.1, one_more m.questions n.questions o.questions (Served s.happened ended.Idle) g.0 g.3 asked)
 
-pub went_paused : (m n o : WorkState) → IsGoing m n → is_live n.at.link ≡ true → Serves n.at.link o.at.link (sides_at n.at n.calls) (sides_at o.at o.calls) ended.Paused → IsGoing m o
-went_paused m n o g live s = (Served s.happened ended.Paused ∷ g.0, went_serving m n o ended.Paused g live s, λ alive. tt)
+pub went_paused : (m n o : WorkState) → IsGoing m n → Questioned n.questions 1 o.questions → is_live n.at.link ≡ true → Serves n.at.link o.at.link (sides_at n.at n.calls) (sides_at o.at o.calls) ended.Paused → IsGoing m o
+went_paused m n o g asked live s = (Served s.happened ended.Paused ∷ g.0, went_serving m n o ended.Paused g live s, λ alive. tt, one_more m.questions n.questions o.questions (Served s.happened ended.Paused) g.0 g.3 asked)
 
-pub went_refused : (m n o : WorkState) → IsGoing m n → is_live n.at.link ≡ true → Serves n.at.link o.at.link (sides_at n.at n.calls) (sides_at o.at o.calls) ended.TermOver → WorksUntil m o ending.TermOver
-went_refused m n o g live s = (Served s.happened ended.TermOver ∷ g.0, went_serving m n o ended.TermOver g live s, tt)
+pub went_refused : (m n o : WorkState) → IsGoing m n → Questioned n.questions 1 o.questions → is_live n.at.link ≡ true → Serves n.at.link o.at.link (sides_at n.at n.calls) (sides_at o.at o.calls) ended.TermOver → WorksUntil m o ending.TermOver
+went_refused m n o g asked live s = (Served s.happened ended.TermOver ∷ g.0, went_serving m n o ended.TermOver g live s, tt, inr (tt, one_more m.questions n.questions o.questions (Served s.happened ended.TermOver) g.0 g.3 asked))
 
-pub went_shut : (m n o : WorkState) → IsGoing m n → is_live n.at.link ≡ true → Serves n.at.link o.at.link (sides_at n.at n.calls) (sides_at o.at o.calls) ended.GateShut → WorksUntil m o ending.GateShut
-went_shut m n o g live s = (Served s.happened ended.GateShut ∷ g.0, went_serving m n o ended.GateShut g live s, tt)
+pub went_shut : (m n o : WorkState) → IsGoing m n → Questioned n.questions 1 o.questions → is_live n.at.link ≡ true → Serves n.at.link o.at.link (sides_at n.at n.calls) (sides_at o.at o.calls) ended.GateShut → WorksUntil m o ending.GateShut
+went_shut m n o g asked live s = (Served s.happened ended.GateShut ∷ g.0, went_serving m n o ended.GateShut g live s, tt, one_more m.questions n.questions o.questions (Served s.happened ended.GateShut) g.0 g.3 asked)
 
 -- the endings of a connection, and no other
 closing_over : (e : Ended) (l : LinkState) (answers : List Answer) → (e ≡ ended.Idle → ⊥) → (e ≡ ended.TermOver → ⊥) → (e ≡ ended.GateShut → ⊥) → (e ≡ ended.Paused → ⊥) → EndsAs e l answers → IsOver l
@@ -230,24 +261,26 @@ closing_over ended.ReadFault l answers a b c d h = h.0
 closing_over ended.WriteFault l answers a b c d h = h.0
 closing_over (ended.BadFrame why) l answers a b c d h = h.0
 
-pub went_closed : (m n o : WorkState) (e : Ended) → IsGoing m n → is_live n.at.link ≡ true → Serves n.at.link o.at.link (sides_at n.at n.calls) (sides_at o.at o.calls) e
+pub went_closed : (m n o : WorkState) (e : Ended) → IsGoing m n → Questioned n.questions 1 o.questions → is_live n.at.link ≡ true → Serves n.at.link o.at.link (sides_at n.at n.calls) (sides_at o.at o.calls) e
     → (e ≡ ended.Idle → ⊥) → (e ≡ ended.TermOver → ⊥) → (e ≡ ended.GateShut → ⊥) → (e ≡ ended.Paused → ⊥) → IsGoing m o
-went_closed m n o e g live s a b c d = (
+went_closed m n o e g asked live s a b c d = (
   Served s.happened e ∷ g.0,
   went_serving m n o e g live s,
   λ alive. let dead : is_live o.at.link ≡ false = over_dead o.at.link (closing_over e o.at.link (answers_in s.happened) a b c d s.ends) in absurd (cc (dead, alive)),
+  one_more m.questions n.questions o.questions (Served s.happened e) g.0 g.3 asked,
 )
 
 -- ---- a wait
 
-pub went_again : (m n : WorkState) (o : StationState) → IsWaiting m n → Answers n.at Again o → IsGoing m (work_state o n.calls)
-went_again m n o g answers = (
+pub went_again : (m n : WorkState) (o : StationState) (q : Option ℕ) → IsWaiting m n → Questioned n.questions 1 q → Answers n.at Again o → IsGoing m (moment o n.calls q)
+went_again m n o q g asked answers = (
   Waited Again [] ∷ g.0,
-  went_on m n (work_state o n.calls) g.0 (Waited Again []) g.1 (ap (λ (l : LinkState). l.who) answers.link) (answered n (work_state o n.calls) Again [] answers.reported answers.passed (sym (append-nil n.calls)))
+  went_on m n (moment o n.calls q) g.0 (Waited Again []) g.1 (ap (λ (l : LinkState). l.who) answers.link) (answered n (moment o n.calls q) Again [] answers.reported answers.passed (sym (append-nil n.calls)))
       (λ past h. still_has_past n.at.link o.link past answers.link h)
       (λ past h. sym (append-nil (deposits_of_sessions past)))
       (λ past h orderly. (refl, g.2, orderly)),
   λ live. tt,
+  one_more m.questions n.questions q (Waited Again []) g.0 g.5 asked,
 )
 
 cut_how : (l : LinkState) (s : Session) (how : How) → l.pending.kept ≡ None → l.unread ≡ [] → how_cut l s how ≡ how_then how (CutAfter (length s.came) false)
@@ -265,40 +298,42 @@ silent_cut l [] deposits kept unread = refl
 silent_cut l (s ∷ ss) deposits kept unread =
     (λ i. with_calls (record { came = s.came; taken = s.taken; how = cut_how l s s.how kept unread i; is_cut = true; calls = s.calls }) deposits ∷ ss)
 
-went_cutting : (m n : WorkState) (o : StationState) (later : List Deposit) (g : IsWaiting m n) (mid : StationState) → Answers n.at Silent mid → ChangesLink mid o → (k : Cuts mid.link o.link n.calls later)
-    → Steps m (work_state o later) (Waited Silent k.deposits ∷ g.0)
-went_cutting m n o later g mid answers turns k =
+went_cutting : (m n : WorkState) (o : StationState) (later : List Deposit) (q : Option ℕ) (g : IsWaiting m n) (mid : StationState) → Answers n.at Silent mid → ChangesLink mid o → (k : Cuts mid.link o.link n.calls later)
+    → Steps m (moment o later q) (Waited Silent k.deposits ∷ g.0)
+went_cutting m n o later q g mid answers turns k =
     let reported : Reports n.at.reported (Silent ∷ []) o.reported = let P : Option (List Answer) → Type 0 = λ t. Reports n.at.reported (Silent ∷ []) t in subst P (sym turns.reported) answers.reported in
     let kept : mid.link.pending.kept ≡ None = ap (λ (l : LinkState). l.pending.kept) answers.link ∙ g.3.kept in
     let unread : mid.link.unread ≡ [] = ap (λ (l : LinkState). l.unread) answers.link ∙ g.4 in
-    went_on m n (work_state o later) g.0 (Waited Silent k.deposits) g.1 (k.same ∙ ap (λ (l : LinkState). l.who) answers.link)
-    (answered n (work_state o later) Silent k.deposits reported (turns.passed ∙ answers.passed) k.desk)
+    went_on m n (moment o later q) g.0 (Waited Silent k.deposits) g.1 (k.same ∙ ap (λ (l : LinkState). l.who) answers.link)
+    (answered n (moment o later q) Silent k.deposits reported (turns.passed ∙ answers.passed) k.desk)
     (λ past h. let P : List Session → Type 0 = HasPast o.link in subst P (silent_cut mid.link past k.deposits kept unread) (k.stands past (still_has_past n.at.link mid.link past answers.link h)))
     (λ past h. silent_view n.at.link past k.deposits (quiet_live n.at.link g.3) h ∙ ap (λ (c : List Deposit). deposits_of_sessions past ++ c) (sym (all_deposits k.deposits)))
     (λ past h orderly. (tt, g.2, orderly))
 
-pub went_cut : (m n : WorkState) (o : StationState) (later : List Deposit) (mid : StationState) → IsWaiting m n → Answers n.at Silent mid → ChangesLink mid o → Cuts mid.link o.link n.calls later → IsOver o.link → IsGoing m (work_state o later)
-went_cut m n o later mid g answers turns k over = (
+pub went_cut : (m n : WorkState) (o : StationState) (later : List Deposit) (q : Option ℕ) (mid : StationState) → IsWaiting m n → Questioned n.questions 1 q → Answers n.at Silent mid → ChangesLink mid o → Cuts mid.link o.link n.calls later → IsOver o.link → IsGoing m (moment o later q)
+went_cut m n o later q mid g asked answers turns k over = (
   Waited Silent k.deposits ∷ g.0,
-  went_cutting m n o later g mid answers turns k,
+  went_cutting m n o later q g mid answers turns k,
   λ live. let dead : is_live o.link ≡ false = over_dead o.link over in absurd (cc (dead, live)),
+  one_more m.questions n.questions q (Waited Silent k.deposits) g.0 g.5 asked,
 )
 
-pub went_cut_over : (m n : WorkState) (o : StationState) (later : List Deposit) (mid : StationState) → IsWaiting m n → Answers n.at Silent mid → ChangesLink mid o → Cuts mid.link o.link n.calls later → WorksUntil m (work_state o later) ending.TermOver
-went_cut_over m n o later mid g answers turns k = (Waited Silent k.deposits ∷ g.0, went_cutting m n o later g mid answers turns k, tt)
+pub went_cut_over : (m n : WorkState) (o : StationState) (later : List Deposit) (q : Option ℕ) (mid : StationState) → IsWaiting m n → Questioned n.questions 1 q → Answers n.at Silent mid → ChangesLink mid o → Cuts mid.link o.link n.calls later → WorksUntil m (moment o later q) ending.TermOver
+went_cut_over m n o later q mid g asked answers turns k =
+    (Waited Silent k.deposits ∷ g.0, went_cutting m n o later q g mid answers turns k, tt, inr (tt, one_more m.questions n.questions q (Waited Silent k.deposits) g.0 g.5 asked))
 
 -- ---- the desk was asked whether the term is over
 
-pub same_calls : (M : WorkState → WorkState → Type 0) (m : WorkState) (at : StationState) (calls later : List Deposit) → later ≡ calls → M m (work_state at calls) → M m (work_state at later)
-same_calls M m at calls later e h = let P : List Deposit → Type 0 = λ c. M m (work_state at c) in subst P (sym e) h
+pub same_calls : (M : WorkState → WorkState → Type 0) (m : WorkState) (at : StationState) (calls later : List Deposit) (q : Option ℕ) → later ≡ calls → M m (moment at calls q) → M m (moment at later q)
+same_calls M m at calls later q e h = let P : List Deposit → Type 0 = λ c. M m (moment at c q) in subst P (sym e) h
 
-pub going_over : (m n : WorkState) → IsGoing m n → WorksUntil m n ending.TermOver
-going_over m n g = (g.0, g.1, tt)
+pub going_over : (m n : WorkState) (q : Option ℕ) → IsGoing m n → Questioned n.questions 1 q → WorksUntil m (moment n.at n.calls q) ending.TermOver
+going_over m n q g asked = (g.0, steps_at m n q g.0 g.1, tt, inl (questioned_then m.questions n.questions q (length g.0) 1 g.3 asked))
 
-pub waiting_over : (m n : WorkState) → IsWaiting m n → WorksUntil m n ending.TermOver
-waiting_over m n g = (g.0, g.1, tt)
+pub waiting_over : (m n : WorkState) (q : Option ℕ) → IsWaiting m n → Questioned n.questions 1 q → WorksUntil m (moment n.at n.calls q) ending.TermOver
+waiting_over m n q g asked = (g.0, steps_at m n q g.0 g.1, tt, inl (questioned_then m.questions n.questions q (length g.0) 1 g.5 asked))
 
 -- ---- how a connection was closed was reported to the port
 
-pub same_station_state : (m : WorkState) (at later : StationState) (calls : List Deposit) → later ≡ at → IsGoing m (work_state at calls) → IsGoing m (work_state later calls)
-same_station_state m at later calls e h = let P : StationState → Type 0 = λ s. IsGoing m (work_state s calls) in subst P (sym e) h
+pub same_station_state : (m : WorkState) (at later : StationState) (calls : List Deposit) (q : Option ℕ) → later ≡ at → IsGoing m (moment at calls q) → IsGoing m (moment later calls q)
+same_station_state m at later calls q e h = let P : StationState → Type 0 = λ s. IsGoing m (moment s calls q) in subst P (sym e) h

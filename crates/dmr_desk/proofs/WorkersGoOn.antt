@@ -75,11 +75,12 @@ module _ (none : (x : Sides) → Happens x [] x) (more : (x y z : Sides) (first 
       let run = are.0.run in
       let low = slice_get_within start.stations k s here in
       let stay = stations_stay start earlier are.1 in
-      let ended = run.all_ended in
+      let ended = run.ended.all_ended in
+      let many = run.ended.actors in
       let middle = get_within (start_after start earlier).stations k (omega arith) in
       let ending = get_within end.ends k (omega arith) in
       let before = carrier_works start earlier k s middle.0 are.1 here middle.1 in
-      let work = run.carriers k middle.0 t ending.0 middle.1 there ending.1 in
+      let work = run.ended.carriers k middle.0 t ending.0 (view_of k end.journal) middle.1 there ending.1 (run.views k (omega arith)) in
       let count = before.1 in
       let P : List Deposit → Type 0 = λ view. WentOn (work_state s []) (work_state t view) (work.0 ∷ before.0) in (
         work.0 ∷ before.0,
@@ -93,10 +94,11 @@ module _ (none : (x : Sides) → Happens x [] x) (more : (x y z : Sides) (first 
       let run = are.0.run in
       let middle = start_after start earlier in
       let stay = stations_stay start earlier are.1 in
-      let ended = run.all_ended in
+      let ended = run.ended.all_ended in
+      let many = run.ended.actors in
       let ending = get_within end.ends (length (start_after start earlier).stations + 1) (omega arith) in
       let before = console_works start earlier are.1 in
-      let work = run.console ending.0 ending.1 in
+      let work = run.ended.console ending.0 (view_of (length (start_after start earlier).stations + 1) end.journal) ending.1 (run.views (length (start_after start earlier).stations + 1) (omega arith)) in
       let count = before.1 in
       let own : view_of (length (start_after start earlier).stations + 1) end.journal ≡ view_of (length start.stations + 1) end.journal = ap (λ (n : ℕ). view_of (n + 1) end.journal) stay in
       let P : List Deposit → Type 0 = λ view. WentOn (work_state start.console []) (work_state end.console view) (work.0 ∷ before.0) in (

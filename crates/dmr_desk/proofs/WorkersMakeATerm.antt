@@ -4,37 +4,37 @@ use Rattle.std.specs.Prelude.{◌≢◌, All, Contains}
 use Rattle.std.proofs.lemmas.Bool.Decides.{nat_tests}
 use Rattle.std.proofs.lemmas.List.{length-map}
 use Rattle.std.proofs.lemmas.List.Elements.{Contains-append_right, All-tail, All-head}
-use Rattle.dmr_core.specs.declared.entry.Entry.{Entry}
 use Rattle.dmr_link.specs.declared.desk.Deposit.{Deposit}
 use Rattle.dmr_desk.specs.declared.ending.Ending.{Ending}
 use Rattle.dmr_desk.specs.declared.ending.Ending.TheVariants as ending
 use Rattle.dmr_desk.specs.declared.report.Report.{Report}
 use Rattle.dmr_desk.specs.declared.fault.CloseFault.{CloseFault}
-use Rattle.dmr_desk.specs.Audited.{IsAudited, IsFault}
+use Rattle.dmr_desk.specs.declared.fault.CloseFault.TheVariants.{SeatMissing, Differs}
+use Rattle.dmr_desk.specs.declared.fault.TermFault.TheVariants.{Audit}
+use Rattle.dmr_desk.specs.Audited.{IsAudited, IsKept, IsUnreported}
+use Rattle.dmr_desk.specs.BookState.{AreOfActors}
 use Rattle.dmr_desk.specs.Pace.{Paced}
-use Rattle.dmr_desk.specs.Refusing.{IsEarly, IsUnaudited, first_over, early_actor}
+use Rattle.dmr_desk.specs.Refusing.{IsEarly, IsLate, first_over, early_actor}
 use Rattle.dmr_desk.specs.Seats.{SeatState, Opened, HasSeat}
-use Rattle.dmr_desk.specs.Views.{view_of}
 use Rattle.dmr_desk.specs.Work.{StationState}
-use Rattle.dmr_desk.specs.Term.{HasWorked, HasTicked, Start, End, start_of_term, end_of_term, HasRun, IsTerm, Done, IsWorkDone, AllDone, IsTicked}
-use Rattle.dmr_desk.proofs.ClosingLemmas.{seat_has_view}
+use Rattle.dmr_desk.specs.Term.{HasWorked, HasTicked, Start, End, start_of_term, end_of_term, HasEnded, HasRun, IsTerm, Done, IsWorkDone, AllDone, IsTicked}
 use Rattle.dmr_desk.proofs.CrewLemmas.{all_done_length}
 
--- ---- each seat has the view of its actor
+-- ---- each seat's deposits are the view of its actor
 
-abbrev AllViews : List Entry → List SeatState → Type 0
-AllViews journal [] = Unit {0}
-AllViews journal (x ∷ xs) = (x.deposits ≡ view_of x.actor journal) × AllViews journal xs
+abbrev AllViews : List (List Deposit) → List SeatState → Type 0
+AllViews views [] = Unit {0}
+AllViews views (x ∷ xs) = (slice_get views x.actor ≡ Some x.deposits) × AllViews views xs
 
-views_all : (journal : List Entry) (xs : List SeatState) → ((x : SeatState) → Contains xs x → x.deposits ≡ view_of x.actor journal) → AllViews journal xs
-views_all journal [] f = tt
-views_all journal (x ∷ xs) f =
+views_all : (views : List (List Deposit)) (xs : List SeatState) → ((x : SeatState) → Contains xs x → slice_get views x.actor ≡ Some x.deposits) → AllViews views xs
+views_all views [] f = tt
+views_all views (x ∷ xs) f =
     let here : Contains (x ∷ xs) x = (0, omega arith, refl) in
-    (f x here, views_all journal xs (λ y h. f y (Contains-append_right (x ∷ []) xs y h)))
+    (f x here, views_all views xs (λ y h. f y (Contains-append_right (x ∷ []) xs y h)))
 
-views_end : (journal : List Entry) (xs ys : List SeatState) → AllViews journal (xs ++ ys) → AllViews journal ys
-views_end journal [] ys h = h
-views_end journal (x ∷ xs) ys h = views_end journal xs ys h.1
+views_end : (views : List (List Deposit)) (xs ys : List SeatState) → AllViews views (xs ++ ys) → AllViews views ys
+views_end views [] ys h = h
+views_end views (x ∷ xs) ys h = views_end views xs ys h.1
 
 -- ---- lists by place
 
@@ -65,17 +65,22 @@ ticked_as before after v v1 e e1 c d h =
     let S : Ending → Type 0 = λ x. HasTicked before after v1 x in
     subst S d (subst R c h)
 
-carriers_at : (ss : List StationState) (ds : List Done) (rest : List Ending) (others : List SeatState) (journal : List Entry) (n k : ℕ) (s t : StationState) (e : Ending) → AllDone n ss ds
-    → AllViews journal (map (λ d. d.seat) ds ++ others) → slice_get ss k ≡ Some s → slice_get (map (λ d. d.at) ds) k ≡ Some t → slice_get (map (λ d. d.ending) ds ++ rest) k ≡ Some e
-    → HasWorked s t (view_of (n + k) journal) e
-carriers_at [] ds rest others journal n k s t e all vs gs gt ge = absurd cc
-carriers_at (x ∷ ss) [] rest others journal n k s t e all vs gs gt ge = absurd all
-carriers_at (x ∷ ss) (d ∷ ds) rest others journal n zero s t e all vs gs gt ge =
+-- the deposits of a seat of this actor are the actor's view
+view_is : (views : List (List Deposit)) (seat : SeatState) (actor : ℕ) (view : List Deposit) → slice_get views seat.actor ≡ Some seat.deposits → seat.actor ≡ actor → slice_get views actor ≡ Some view → seat.deposits ≡ view
+view_is views seat actor view its own seen = same_some seat.deposits view (sym its ∙ ap (λ (k : ℕ). slice_get views k) own ∙ seen)
+
+carriers_at : (ss : List StationState) (ds : List Done) (rest : List Ending) (others : List SeatState) (views : List (List Deposit)) (n k : ℕ) (s t : StationState) (e : Ending) (view : List Deposit) → AllDone n ss ds
+    → AllViews views (map (λ d. d.seat) ds ++ others) → slice_get ss k ≡ Some s → slice_get (map (λ d. d.at) ds) k ≡ Some t → slice_get (map (λ d. d.ending) ds ++ rest) k ≡ Some e → slice_get views (n + k) ≡ Some view
+    → HasWorked s t view e
+carriers_at [] ds rest others views n k s t e view all vs gs gt ge gv = absurd cc
+carriers_at (x ∷ ss) [] rest others views n k s t e view all vs gs gt ge gv = absurd all
+carriers_at (x ∷ ss) (d ∷ ds) rest others views n zero s t e view all vs gs gt ge gv =
     let number : d.seat.actor ≡ n + zero = let z : n ≡ n + 0 = omega arith in all.0.0 ∙ z in
-    worked_as x s d.at t d.seat.deposits (view_of (n + zero) journal) d.ending e (same_some x s gs) (same_some d.at t gt) (vs.0 ∙ ap (λ (m : ℕ). view_of m journal) number) (same_some d.ending e ge) all.0.1
-carriers_at (x ∷ ss) (d ∷ ds) rest others journal n (suc k) s t e all vs gs gt ge =
-    let m : n + 1 + k ≡ n + suc k = omega arith in
-    let P : ℕ → Type 0 = λ i. HasWorked s t (view_of i journal) e in subst P m (carriers_at ss ds rest others journal (n + 1) k s t e all.1 vs.1 gs gt ge)
+    worked_as x s d.at t d.seat.deposits view d.ending e (same_some x s gs) (same_some d.at t gt) (view_is views d.seat (n + zero) view vs.0 number gv) (same_some d.ending e ge) all.0.1
+carriers_at (x ∷ ss) (d ∷ ds) rest others views n (suc k) s t e view all vs gs gt ge gv =
+    let m : n + suc k ≡ n + 1 + k = omega arith in
+    let P : ℕ → Type 0 = λ i. slice_get views i ≡ Some view in
+    carriers_at ss ds rest others views (n + 1) k s t e view all.1 vs.1 gs gt ge (subst P m gv)
 
 -- ---- who ended early
 
@@ -141,58 +146,65 @@ last_shut ending_of ws first last n count g =
 
 -- ---- the whole
 
+pub has_ended : (desk : Opened) (seats : List SeatState) (report : Report) (ends : List Ending) (stations ss : List StationState) (ds : List Done) (before after : Option Paced) (ts : SeatState) (te : Ending) (s : StationState) (d : Done)
+    → IsKept desk seats report → seats ≡ map (λ d. d.seat) ds ++ ts ∷ d.seat ∷ [] → ends ≡ map (λ d. d.ending) ds ++ te ∷ d.ending ∷ [] → stations ≡ map (λ d. d.at) ds
+    → AllDone 0 ss ds → IsTicked (length ss) before after ts te → IsWorkDone (length ss + 1) s d
+    → HasEnded (start_of_term desk.site desk.limit ss before s) (end_of_term report ends stations after d.at)
+has_ended desk seats report ends stations ss ds before after ts te s d is es ee et all ticked worked =
+    let views : List (List Deposit) = report.views.items in
+    let n : length ds ≡ length ss = all_done_length 0 ss ds all in
+    let ne : length (map (λ (x : Done). x.ending) ds) ≡ length ss = length-map ds (λ (x : Done). x.ending) ∙ n in
+    let nt : length (map (λ (x : Done). x.at) ds) ≡ length ss = length-map ds (λ (x : Done). x.at) ∙ n in
+    let ns : length (map (λ (x : Done). x.seat) ds) ≡ length ss = length-map ds (λ (x : Done). x.seat) ∙ n in
+    let V : List SeatState → Type 0 = AllViews views in
+    let vs : AllViews views (map (λ x. x.seat) ds ++ ts ∷ d.seat ∷ []) = subst V es (views_all views seats is.gathered.each) in
+    let last : AllViews views (ts ∷ d.seat ∷ []) = views_end views (map (λ x. x.seat) ds) (ts ∷ d.seat ∷ []) vs in
+    record {
+      legal = is.journal.kept.legal;
+      safe = is.safe;
+      within = is.journal.kept.within;
+      site = is.site;
+      actors = is.gathered.as_many ∙ ap length es ∙ length-append (map (λ (x : Done). x.seat) ds) (ts ∷ d.seat ∷ []) ∙ ap (λ (k : ℕ). k + 2) ns;
+      counted = is.journal.counted ∙ sym is.counted;
+      nobody = let K : ℕ → Type 0 = λ n. AreOfActors n report.journal in subst K (sym is.actors) is.journal.known;
+      handed_back = ap length et ∙ nt;
+      carriers = λ k a b e view ga gb ge gv.
+          let Q : List StationState → Type 0 = λ xs. slice_get xs k ≡ Some b in
+          let R : List Ending → Type 0 = λ xs. slice_get xs k ≡ Some e in
+          let m : k ≡ 0 + k = omega arith in
+          let P : ℕ → Type 0 = λ i. slice_get views i ≡ Some view in
+          carriers_at ss ds (te ∷ d.ending ∷ []) (ts ∷ d.seat ∷ []) views 0 k a b e view all vs ga (subst Q et gb) (subst R ee ge) (subst P m gv);
+      ticker = λ e view g gv.
+          let got : slice_get ends (length ss) ≡ Some te = rw (ee, ← ne) (get_end (map (λ (x : Done). x.ending) ds) te (d.ending ∷ [])) in
+          ticked_as before after ts.deposits view te e (view_is views ts (length ss) view last.0 ticked.0 gv) (same_some te e (sym got ∙ g)) ticked.1;
+      console = λ e view g gv.
+          let got : slice_get ends (length ss + 1) ≡ Some d.ending = rw (ee, ← ne) (get_next (map (λ (x : Done). x.ending) ds) te d.ending []) in
+          worked_as s s d.at d.at d.seat.deposits view d.ending e refl refl (view_is views d.seat (length ss + 1) view last.1.0 worked.0 gv) (same_some d.ending e (sym got ∙ g)) worked.1;
+      all_ended = ap length ee ∙ length-append (map (λ (x : Done). x.ending) ds) (te ∷ d.ending ∷ []) ∙ ap (λ (k : ℕ). k + 2) ne;
+    }
+
 pub has_run : (desk : Opened) (seats : List SeatState) (report : Report) (ends : List Ending) (stations ss : List StationState) (ds : List Done) (before after : Option Paced) (ts : SeatState) (te : Ending) (s : StationState) (d : Done)
     → IsAudited desk seats report → seats ≡ map (λ d. d.seat) ds ++ ts ∷ d.seat ∷ [] → ends ≡ map (λ d. d.ending) ds ++ te ∷ d.ending ∷ [] → stations ≡ map (λ d. d.at) ds
     → AllDone 0 ss ds → IsTicked (length ss) before after ts te → IsWorkDone (length ss + 1) s d
     → HasRun (start_of_term desk.site desk.limit ss before s) (end_of_term report ends stations after d.at)
 has_run desk seats report ends stations ss ds before after ts te s d is es ee et all ticked worked =
-    let journal : List Entry = report.journal in
-    let n : length ds ≡ length ss = all_done_length 0 ss ds all in
-    let ne : length (map (λ (x : Done). x.ending) ds) ≡ length ss = length-map ds (λ (x : Done). x.ending) ∙ n in
-    let nt : length (map (λ (x : Done). x.at) ds) ≡ length ss = length-map ds (λ (x : Done). x.at) ∙ n in
-    let ns : length (map (λ (x : Done). x.seat) ds) ≡ length ss = length-map ds (λ (x : Done). x.seat) ∙ n in
-    let V : List SeatState → Type 0 = AllViews journal in
-    let vs : AllViews journal (map (λ x. x.seat) ds ++ ts ∷ d.seat ∷ []) = subst V es (views_all journal seats (seat_has_view desk seats report is)) in
-    let last : AllViews journal (ts ∷ d.seat ∷ []) = views_end journal (map (λ x. x.seat) ds) (ts ∷ d.seat ∷ []) vs in
-    record {
-      legal = is.reported.legal;
-      safe = is.reported.safe;
-      within = is.reported.within;
-      site = is.reported.site;
-      actors = is.gathered.as_many ∙ ap length es ∙ length-append (map (λ (x : Done). x.seat) ds) (ts ∷ d.seat ∷ []) ∙ ap (λ (k : ℕ). k + 2) ns;
-      views = is.reported.reported.each;
-      nobody = is.reported.reported.others;
-      handed_back = ap length et ∙ nt;
-      carriers = λ k a b e ga gb ge.
-          let Q : List StationState → Type 0 = λ xs. slice_get xs k ≡ Some b in
-          let R : List Ending → Type 0 = λ xs. slice_get xs k ≡ Some e in
-          let m : 0 + k ≡ k = omega arith in
-          let P : ℕ → Type 0 = λ i. HasWorked a b (view_of i journal) e in
-          subst P m (carriers_at ss ds (te ∷ d.ending ∷ []) (ts ∷ d.seat ∷ []) journal 0 k a b e all vs ga (subst Q et gb) (subst R ee ge));
-      ticker = λ e g.
-          let got : slice_get ends (length ss) ≡ Some te = rw (ee, ← ne) (get_end (map (λ (x : Done). x.ending) ds) te (d.ending ∷ [])) in
-          ticked_as before after ts.deposits (view_of (length ss) journal) te e (last.0 ∙ ap (λ (m : ℕ). view_of m journal) ticked.0) (same_some te e (sym got ∙ g)) ticked.1;
-      console = λ e g.
-          let got : slice_get ends (length ss + 1) ≡ Some d.ending = rw (ee, ← ne) (get_next (map (λ (x : Done). x.ending) ds) te d.ending []) in
-          worked_as s s d.at d.at d.seat.deposits (view_of (length ss + 1) journal) d.ending e refl refl (last.1.0 ∙ ap (λ (m : ℕ). view_of m journal) worked.0) (same_some d.ending e (sym got ∙ g)) worked.1;
-      all_ended = ap length ee ∙ length-append (map (λ (x : Done). x.ending) ds) (te ∷ d.ending ∷ []) ∙ ap (λ (k : ℕ). k + 2) ne;
-    }
+    record { ended = has_ended desk seats report ends stations ss ds before after ts te s d is.kept es ee et all ticked worked; views = is.same }
 
 -- if no worker ended early, it is a term
 pub is_term : (start : Start) (end : End) → HasRun start end → early_actor (length end.journal) start.limit end.ends ≡ None → IsTerm start end
 is_term start end run early = record {
   run = run;
-  over = λ k g. let h : start.limit ≤ length end.journal = over_at_limit (ltb (length end.journal) start.limit) (length end.journal) start.limit end.ends k refl early g in let w = run.within in omega arith;
+  over = λ k g. let h : start.limit ≤ length end.journal = over_at_limit (ltb (length end.journal) start.limit) (length end.journal) start.limit end.ends k refl early g in let w = run.ended.within in omega arith;
 }
 
-pub is_early : (start : Start) (end : End) (actor : ℕ) → HasRun start end → early_actor (length end.journal) start.limit end.ends ≡ Some actor → IsEarly start actor
+pub is_early : (start : Start) (end : End) (actor : ℕ) → HasRun start end → early_actor (length end.journal) start.limit end.ends ≡ Some actor → IsEarly start end actor
 is_early start end actor run early =
     let both = below_limit (ltb (length end.journal) start.limit) (length end.journal) start.limit end.ends actor refl early in
     let first = both.1 in
     let same : first.0 ≡ actor = let e = first.1 in omega arith in
     let P : ℕ → Type 0 = λ k. slice_get end.ends k ≡ Some ending.TermOver in
     let Q : ℕ → Type 0 = λ k. (j : ℕ) → j < k → slice_get end.ends j ≢ Some ending.TermOver in
-    record { end = end; run = run; below = both.0; reported = subst P same first.2; least = subst Q same first.3 }
+    record { run = run; below = both.0; reported = subst P same first.2; least = subst Q same first.3 }
 
 -- ---- the seats
 
@@ -216,19 +228,28 @@ has_seat n (suc i) (x ∷ xs) of low =
     let m : n + 1 + i ≡ n + suc i = omega arith in
     let P : ℕ → Type 0 = HasSeat (x ∷ xs) in subst P m (seat_after x xs (n + 1 + i) (has_seat (n + 1) i xs of.1 (omega arith)))
 
-pub is_unaudited : (desk : Opened) (seats : List SeatState) (fault : CloseFault) (ss : List StationState) (ds : List Done) (before after : Option Paced) (ts : SeatState) (te : Ending) (s : StationState) (d : Done)
-    → desk.actors ≡ length ds + 2 → IsFault desk seats fault → seats ≡ map (λ d. d.seat) ds ++ ts ∷ d.seat ∷ []
-    → AllDone 0 ss ds → IsTicked (length ss) before after ts te → IsWorkDone (length ss + 1) s d → IsUnaudited (start_of_term desk.site desk.limit ss before s) fault
-is_unaudited desk seats fault ss ds before after ts te s d actors refused es all ticked worked =
+-- no seat is missing
+none_missing : (seats : List SeatState) (ss : List StationState) (ds : List Done) (before after : Option Paced) (ts : SeatState) (te : Ending) (s : StationState) (d : Done) → seats ≡ map (λ d. d.seat) ds ++ ts ∷ d.seat ∷ []
+    → AllDone 0 ss ds → IsTicked (length ss) before after ts te → IsWorkDone (length ss + 1) s d → (actor : ℕ) → actor < length ds + 2 → HasSeat seats actor
+none_missing seats ss ds before after ts te s d es all ticked worked actor below =
     let all_of : AreOf 0 (map (λ x. x.seat) ds ++ ts ∷ d.seat ∷ []) = of_all 0 ss ds ts d.seat all (let e = ticked.0 in omega arith) (let e = worked.0 in omega arith) in
     let A : List SeatState → Type 0 = AreOf 0 in
-    let ns : length (map (λ (x : Done). x.seat) ds) ≡ length ss = length-map ds (λ (x : Done). x.seat) ∙ all_done_length 0 ss ds all in
-    let many : length seats ≡ length ss + 2 = ap length es ∙ length-append (map (λ (x : Done). x.seat) ds) (ts ∷ d.seat ∷ []) ∙ ap (λ (k : ℕ). k + 2) ns in
-    let F : ℕ → Type 0 = λ k. IsFault (record { site = desk.site; limit = desk.limit; actors = k }) seats fault in
-    record {
-      seats = seats;
-      each = λ actor below.
-          let z : 0 + actor ≡ actor = omega arith in
-          let P : ℕ → Type 0 = HasSeat seats in subst P z (has_seat 0 actor seats (subst A (sym es) all_of) (omega arith));
-      refused = subst F (actors ∙ ap (λ (k : ℕ). k + 2) (all_done_length 0 ss ds all)) refused;
-    }
+    let many : length seats ≡ length ds + 2 = ap length es ∙ length-append (map (λ (x : Done). x.seat) ds) (ts ∷ d.seat ∷ []) ∙ ap (λ (k : ℕ). k + 2) (length-map ds (λ (x : Done). x.seat)) in
+    let z : 0 + actor ≡ actor = omega arith in
+    let P : ℕ → Type 0 = HasSeat seats in subst P z (has_seat 0 actor seats (subst A (sym es) all_of) (omega arith))
+
+pub none_is_missing : (desk : Opened) (seats : List SeatState) (fault : CloseFault) (ss : List StationState) (ds : List Done) (before after : Option Paced) (ts : SeatState) (te : Ending) (s : StationState) (d : Done)
+    → desk.actors ≡ length ds + 2 → IsUnreported desk seats fault None → seats ≡ map (λ d. d.seat) ds ++ ts ∷ d.seat ∷ []
+    → AllDone 0 ss ds → IsTicked (length ss) before after ts te → IsWorkDone (length ss + 1) s d → ⊥
+none_is_missing desk seats (SeatMissing actor) ss ds before after ts te s d actors why es all ticked worked =
+    why.1 (none_missing seats ss ds before after ts te s d es all ticked worked actor (let below = why.0 in omega arith))
+none_is_missing desk seats (Differs actor) ss ds before after ts te s d actors why es all ticked worked = why
+
+-- what a desk kept that has no report is a term of which a view differs
+pub is_unaudited : (desk : Opened) (seats : List SeatState) (fault : CloseFault) (report : Report) (ends : List Ending) (stations ss : List StationState) (ds : List Done) (before after : Option Paced) (ts : SeatState) (te : Ending) (s : StationState) (d : Done)
+    → IsUnreported desk seats fault (Some report) → seats ≡ map (λ d. d.seat) ds ++ ts ∷ d.seat ∷ [] → ends ≡ map (λ d. d.ending) ds ++ te ∷ d.ending ∷ [] → stations ≡ map (λ d. d.at) ds
+    → AllDone 0 ss ds → IsTicked (length ss) before after ts te → IsWorkDone (length ss + 1) s d
+    → IsLate (start_of_term desk.site desk.limit ss before s) (Audit fault) (end_of_term report ends stations after d.at)
+is_unaudited desk seats (Differs actor) report ends stations ss ds before after ts te s d why es ee et all ticked worked =
+    record { ended = has_ended desk seats report ends stations ss ds before after ts te s d why.0 es ee et all ticked worked; differs = why.1 }
+is_unaudited desk seats (SeatMissing actor) report ends stations ss ds before after ts te s d why es ee et all ticked worked = absurd why

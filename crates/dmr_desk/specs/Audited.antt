@@ -1,15 +1,13 @@
 -- The result of closing a desk: its report, or why there is none.
 use Rattle.std.specs.Prelude.{◌≡◌, ◌≢◌, ◌⊎◌, ◌<◌, ◌≤◌, ◌+◌, ◌-◌, ℕ, List, [], ◌∷◌, length, reverse}
-use Rattle.std.specs.Prelude.{slice_get, Option, Some, None, Contains, All}
+use Rattle.std.specs.Prelude.{slice_get, Option, Some, None, Contains}
 use Rattle.dmr_core.specs.declared.entry.Entry.{Entry}
-use Rattle.dmr_core.specs.Journal.{IsLegal}
-use Rattle.dmr_core.specs.State.{SiteState}
 use Rattle.dmr_link.specs.Runs.{IsSafe}
 use Rattle.dmr_link.specs.declared.desk.Deposit.{Deposit}
 use Rattle.dmr_desk.specs.declared.report.Report.{Report}
 use Rattle.dmr_desk.specs.declared.fault.CloseFault.{CloseFault}
 use Rattle.dmr_desk.specs.declared.fault.CloseFault.TheVariants.{SeatMissing, Differs}
-use Rattle.dmr_desk.specs.BookState.{IsSoundBook, site_after_entries}
+use Rattle.dmr_desk.specs.BookState.{AreOfActors, IsSoundBook, site_after_entries}
 use Rattle.dmr_desk.specs.Seats.{SeatState, Opened, HasSeat, NoneMissing}
 use Rattle.dmr_desk.specs.Views.{view_of, Follows}
 
@@ -20,30 +18,6 @@ pub record AreGathered (seats : List SeatState) (views : List (List Deposit)) : 
   pub has : (actor : ℕ) → actor < length views → HasSeat seats actor
   pub each : (seat : SeatState) → Contains seats seat
       → slice_get views seat.actor ≡ Some seat.deposits
-
--- each view is the journal's list for its actor, and each entry belongs to an actor that has a view
-pub record AreViews (views : List (List Deposit)) (journal : List Entry) : Type 0 where
-  pub each : (actor : ℕ) → actor < length views
-      → slice_get views actor ≡ Some (view_of actor journal)
-  pub others : All (λ (entry : Entry). entry.actor < length views) journal
-
--- a report from this opening site and with this limit, with these views. Its journal is legal from that site, its acts
--- are safe, and it has at most `limit` entries. The report's site is in the state that the journal leads to; the views
--- are the journal's lists for their actors
-pub record IsReported (opening : SiteState) (limit : ℕ) (views : List (List Deposit))
-    (report : Report) : Type 0 where
-  pub legal : IsLegal opening.plan opening.facts (reverse report.journal)
-  pub safe : IsSafe opening.plan opening.facts (reverse report.journal)
-  pub within : length report.journal ≤ limit
-  pub site : report.site ≡ site_after_entries opening report.journal
-  pub views_are : report.views.items ≡ views
-  pub reported : AreViews views report.journal
-
--- the report of a desk that was closed with these seats: each of its actors has a view
-pub record IsAudited (desk : Opened) (seats : List SeatState) (report : Report) : Type 0 where
-  pub reported : IsReported desk.site desk.limit report.views.items report
-  pub gathered : AreGathered seats report.views.items
-  pub actors : length report.views.items ≡ desk.actors
 
 -- the view of each actor below a number is the journal's list for it
 abbrev pub SameBelow : ℕ → List (List Deposit) → List Entry → Type 0
@@ -72,29 +46,39 @@ deposits_of_seats [] = 0
 deposits_of_seats (seat ∷ seats) = length seat.deposits + deposits_of_seats seats
 
 -- a journal that a desk may have kept after this many deposits: it is legal from the desk's site, within the desk's
--- limit, and has one entry for each deposit
+-- limit, has one entry for each deposit, and each entry is of an actor of the desk
 pub record IsJournalFor (desk : Opened) (deposits : ℕ) (journal : List Entry) : Type 0 where
   pub kept : IsSoundBook (record { opening = desk.site; limit = desk.limit; entries = journal })
   pub counted : length journal ≡ deposits
+  pub known : AreOfActors desk.actors journal
 
--- the deposits of this actor's seat differ from the journal's list for it, and it is the least such actor
-pub record IsLeastDiffering (seats : List SeatState) (journal : List Entry)
-    (actor : ℕ) : Type 0 where
-  pub seat : SeatState
-  pub has : Contains seats seat
-  pub own : seat.actor ≡ actor
-  pub differs : seat.deposits ≢ view_of actor journal
-  pub least : (other : SeatState) → Contains seats other → other.actor < actor
-      → other.deposits ≡ view_of other.actor journal
+-- what a desk kept that was closed with these seats: its journal, whose acts are safe; its site, in the state that the
+-- journal leads to; and a view for each of its actors, which has the deposits of the actor's seat. Whether the views
+-- are the journal's lists is not said
+pub record IsKept (desk : Opened) (seats : List SeatState) (report : Report) : Type 0 where
+  pub journal : IsJournalFor desk (deposits_of_seats seats) report.journal
+  pub safe : IsSafe desk.site.plan desk.site.facts (reverse report.journal)
+  pub site : report.site ≡ site_after_entries desk.site report.journal
+  pub gathered : AreGathered seats report.views.items
+  pub counted : count_of_deposits report.views.items ≡ deposits_of_seats seats
+  pub actors : length report.views.items ≡ desk.actors
 
--- why a desk has no report: a seat is missing, or a seat differs from a journal of this desk; either names the least
--- such actor. A seat differs only if each actor has its seat and there is no other seat
+-- the report of a desk that was closed with these seats: each view is the journal's list for its actor
+pub record IsAudited (desk : Opened) (seats : List SeatState) (report : Report) : Type 0 where
+  pub kept : IsKept desk seats report
+  pub same : SameBelow (length report.views.items) report.views.items report.journal
+
+-- why a desk has no report, and what it kept: a seat is missing, or a view differs from the journal's list; either names
+-- the least such actor
+abbrev pub IsUnreported : Opened → List SeatState → CloseFault → Option Report → Type 0
+IsUnreported desk seats (SeatMissing actor) None = IsLeastMissing seats desk.actors actor
+IsUnreported desk seats (Differs actor) (Some report) =
+    IsKept desk seats report × IsDiffering report.views.items report.journal actor
+IsUnreported desk seats fault kept = ⊥
+
+-- the same, if it is not known what the desk kept
 abbrev pub IsFault : Opened → List SeatState → CloseFault → Type 0
-IsFault desk seats (SeatMissing actor) = IsLeastMissing seats desk.actors actor
-IsFault desk seats (Differs actor) =
-    NoneMissing seats desk.actors × (length seats ≡ desk.actors)
-    × (journal : List Entry) × IsJournalFor desk (deposits_of_seats seats) journal
-    × IsLeastDiffering seats journal actor
+IsFault desk seats fault = (kept : Option Report) × IsUnreported desk seats fault kept
 
 -- a seat of a list, and the list without it
 pub record IsOutOf (seats : List SeatState) (seat : SeatState)

@@ -1,5 +1,5 @@
 -- A book: the site at its opening, and the entries since then, oldest first.
-use Rattle.std.specs.Prelude.{◌≤◌, ◌++◌, ◌∷◌, [], ℕ, List, length, reverse}
+use Rattle.std.specs.Prelude.{◌<◌, ◌≤◌, ◌++◌, ◌∷◌, [], ℕ, List, length, reverse, All}
 use Rattle.dmr_core.specs.declared.event.Event.{Event}
 use Rattle.dmr_core.specs.declared.act.Acts.{Acts}
 use Rattle.dmr_core.specs.declared.entry.Entry.{Entry}
@@ -30,6 +30,10 @@ book_with_entry pages actor event acts = record {
 abbrev pub answer_to : BookState → Event → Acts
 answer_to pages event =
     answer_after_entries pages.opening.plan pages.opening.facts (reverse pages.entries) event
+
+-- each entry is of an actor below this number
+abbrev pub AreOfActors : ℕ → List Entry → Type 0
+AreOfActors actors entries = All (λ (entry : Entry). entry.actor < actors) entries
 
 -- every book was opened with a site, its journal is legal from there, and it has at most `limit` entries
 pub record IsSoundBook (pages : BookState) : Type 0 where

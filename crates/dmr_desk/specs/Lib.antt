@@ -9,5 +9,6 @@ pub mod Work
 pub mod Term
 pub mod Meaning
 pub mod Refusing
+pub mod Service
 pub mod Terms
 pub mod Life

@@ -10,15 +10,14 @@ use Rattle.dmr_link.specs.declared.stream.Peer.{Peer}
 use Rattle.dmr_link.specs.declared.stream.Peer.TheVariants.{Carrier, Operator}
 use Rattle.dmr_desk.specs.declared.ending.Ending.{Ending}
 use Rattle.dmr_desk.specs.declared.ending.Ending.TheVariants as ending
-use Rattle.dmr_desk.specs.declared.fault.CloseFault.{CloseFault}
+use Rattle.dmr_desk.specs.declared.fault.CloseFault.TheVariants.{Differs}
 use Rattle.dmr_desk.specs.declared.fault.OpenFault.TheVariants.{BadLimit, BadActors, OutOfMemory}
 use Rattle.dmr_desk.specs.declared.fault.TermFault.{TermFault}
 use Rattle.dmr_desk.specs.declared.fault.TermFault.TheVariants.{BadStations, Open, NoThread, Audit}
 use Rattle.dmr_desk.specs.declared.fault.TermFault.TheVariants.{Early}
-use Rattle.dmr_desk.specs.Audited.{IsFault}
+use Rattle.dmr_desk.specs.Audited.{IsDiffering}
 use Rattle.dmr_desk.specs.Opening.{IsLimit}
-use Rattle.dmr_desk.specs.Seats.{SeatState, HasSeat}
-use Rattle.dmr_desk.specs.Term.{Start, End, HasRun}
+use Rattle.dmr_desk.specs.Term.{Start, End, HasEnded, HasRun}
 use Rattle.dmr_desk.specs.Work.{StationState}
 
 -- the carrier numbers of the plan among the `many` numbers that begin with `n`, least first
@@ -45,20 +44,22 @@ AreStations plan stations =
 
 -- all actors have done their part, and this is the least actor that ended because the term was over although the
 -- journal was below its limit
-pub record IsEarly (start : Start) (actor : ℕ) : Type 0 where
-  pub end : End
+pub record IsEarly (start : Start) (end : End) (actor : ℕ) : Type 0 where
   pub run : HasRun start end
   pub below : length end.journal < start.limit
   pub reported : slice_get end.ends actor ≡ Some ending.TermOver
   pub least : (lower : ℕ) → lower < actor → slice_get end.ends lower ≢ Some ending.TermOver
 
--- a desk that was opened with the site and the limit returned no report, although it received the seats of all actors
-pub record IsUnaudited (start : Start) (fault : CloseFault) : Type 0 where
-  pub seats : List SeatState
-  pub each : (actor : ℕ) → actor < length start.stations + 2 → HasSeat seats actor
-  pub refused : IsFault
-      (record { site = start.site; limit = start.limit; actors = length start.stations + 2 }) seats
-      fault
+-- all actors have done their part, and this is the least actor whose view differs from the journal's list for it
+pub record IsUnaudited (start : Start) (end : End) (actor : ℕ) : Type 0 where
+  pub ended : HasEnded start end
+  pub differs : IsDiffering end.views end.journal actor
+
+-- why a term that ended so is not returned
+abbrev pub IsLate : Start → TermFault → End → Type 0
+IsLate start (Audit (Differs actor)) end = IsUnaudited start end actor
+IsLate start (Early actor) end = IsEarly start end actor
+IsLate start fault end = ⊥
 
 -- a fault that applies if the stations are right; the first one
 abbrev pub IsFaultFor : Start → TermFault → Type 0
@@ -67,8 +68,7 @@ IsFaultFor start (Open BadLimit) = ¬ IsLimit start.limit
 IsFaultFor start (Open BadActors) = ⊥
 IsFaultFor start (Open OutOfMemory) = IsLimit start.limit
 IsFaultFor start NoThread = IsLimit start.limit
-IsFaultFor start (Audit fault) = IsLimit start.limit × IsUnaudited start fault
-IsFaultFor start (Early actor) = IsLimit start.limit × IsEarly start actor
+IsFaultFor start fault = IsLimit start.limit × (end : End) × IsLate start fault end
 
 -- why there is no term: the first fault that applies
 abbrev pub IsTermFault : Start → TermFault → Type 0
@@ -84,13 +84,19 @@ left_at NoThread given = None
 left_at (Audit fault) given = None
 left_at (Early actor) given = None
 
--- ---- on the way
+-- whether a fault is found when all workers have ended
+abbrev pub is_late : TermFault → Bool
+is_late (Audit fault) = true
+is_late (Early actor) = true
+is_late fault = false
 
--- a fault that is found after threads have run
-abbrev pub IsLate : Start → TermFault → Type 0
-IsLate start (Audit fault) = IsUnaudited start fault
-IsLate start (Early actor) = IsEarly start actor
-IsLate start fault = ⊥
+-- the end of a term that is handed back with this fault: at a fault that is found when all workers have ended, the end
+-- to which it applies; at the others nothing
+abbrev pub IsEndAt : Start → TermFault → Option End → Type 0
+IsEndAt start fault (Some end) = IsLate start fault end
+IsEndAt start fault None = is_late fault ≡ false
+
+-- ---- on the way
 
 -- whether threads were started before a fault is found
 abbrev pub starts_threads : TermFault → Bool

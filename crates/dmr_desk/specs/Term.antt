@@ -9,6 +9,7 @@ use Rattle.dmr_link.specs.declared.desk.Deposit.{Deposit}
 use Rattle.dmr_desk.specs.declared.ending.Ending.{Ending}
 use Rattle.dmr_desk.specs.declared.ending.Ending.TheVariants as ending
 use Rattle.dmr_desk.specs.declared.report.Report.{Report}
+use Rattle.dmr_desk.specs.Audited.{count_of_deposits}
 use Rattle.dmr_desk.specs.Pace.{Paced, Ticks}
 use Rattle.dmr_desk.specs.BookState.{site_after_entries}
 use Rattle.dmr_desk.specs.Seats.{SeatState}
@@ -63,30 +64,41 @@ end_of_term report ends stations pacer console = record {
   console = console;
 }
 
--- the work of a whole term: a legal, safe journal, a view for each actor, and each actor's part. The actors are the
--- stations, in their order, then the ticker, then the console
-pub record HasRun (start : Start) (end : End) : Type 0 where
+-- what a term came to when its workers had ended: a legal, safe journal, a view for each actor, and each actor's part.
+-- The actors are the stations, in their order, then the ticker, then the console. Whether the views are the journal's
+-- lists is not said
+pub record HasEnded (start : Start) (end : End) : Type 0 where
   -- the journal is legal from the site of the start, safe, and has at most `limit` entries; the end's site is in the
   -- state that it leads to
   pub legal : IsLegal start.site.plan start.site.facts (reverse end.journal)
   pub safe : IsSafe start.site.plan start.site.facts (reverse end.journal)
   pub within : length end.journal ≤ start.limit
   pub site : end.site ≡ site_after_entries start.site end.journal
-  -- each actor has a view, which is the journal's list for it, and no entry belongs to another actor
+  -- each actor has a view. The journal is as long as all views, and no entry belongs to another actor
   pub actors : length end.views ≡ length start.stations + 2
-  pub views : (k : ℕ) → k < length end.views → slice_get end.views k ≡ Some (view_of k end.journal)
+  pub counted : length end.journal ≡ count_of_deposits end.views
   pub nobody : All (λ (entry : Entry). entry.actor < length end.views) end.journal
   -- each station was returned, and each actor has ended
   pub handed_back : length end.stations ≡ length start.stations
   pub all_ended : length end.ends ≡ length start.stations + 2
   -- each actor did its part, and its view is the list of its desk's deposits
-  pub carriers : (k : ℕ) (s t : StationState) (e : Ending) → slice_get start.stations k ≡ Some s
-      → slice_get end.stations k ≡ Some t → slice_get end.ends k ≡ Some e
-      → HasWorked s t (view_of k end.journal) e
-  pub ticker : (e : Ending) → slice_get end.ends (length start.stations) ≡ Some e
-      → HasTicked start.pacer end.pacer (view_of (length start.stations) end.journal) e
-  pub console : (e : Ending) → slice_get end.ends (length start.stations + 1) ≡ Some e
-      → HasWorked start.console end.console (view_of (length start.stations + 1) end.journal) e
+  pub carriers : (k : ℕ) (s t : StationState) (e : Ending) (view : List Deposit)
+      → slice_get start.stations k ≡ Some s → slice_get end.stations k ≡ Some t
+      → slice_get end.ends k ≡ Some e → slice_get end.views k ≡ Some view
+      → HasWorked s t view e
+  pub ticker : (e : Ending) (view : List Deposit)
+      → slice_get end.ends (length start.stations) ≡ Some e
+      → slice_get end.views (length start.stations) ≡ Some view
+      → HasTicked start.pacer end.pacer view e
+  pub console : (e : Ending) (view : List Deposit)
+      → slice_get end.ends (length start.stations + 1) ≡ Some e
+      → slice_get end.views (length start.stations + 1) ≡ Some view
+      → HasWorked start.console end.console view e
+
+-- the work of a whole term: it has ended so, and each view is the journal's list for its actor
+pub record HasRun (start : Start) (end : End) : Type 0 where
+  pub ended : HasEnded start end
+  pub views : (k : ℕ) → k < length end.views → slice_get end.views k ≡ Some (view_of k end.journal)
 
 -- A TERM: all this was done, and a worker ended because the term was over only if the journal was at its limit
 pub record IsTerm (start : Start) (end : End) : Type 0 where

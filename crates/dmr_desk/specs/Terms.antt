@@ -1,7 +1,7 @@
 -- Terms in a row: each begins with what the one before it left.
 use Rattle.std.specs.Prelude.{◌≡◌, ℕ, ◌<◌, List, [], ◌∷◌, ◌++◌, Option, Some, length}
 use Rattle.dmr_core.specs.declared.entry.Entry.{Entry}
-use Rattle.dmr_desk.specs.declared.fault.TermsFault.{TermsFault}
+use Rattle.dmr_desk.specs.declared.fault.TermFault.{TermFault}
 use Rattle.dmr_desk.specs.Opening.{IsLimit}
 use Rattle.dmr_desk.specs.Refusing.{AreStations, IsTermFault}
 use Rattle.dmr_desk.specs.Term.{Start, End, IsTerm, start_of_term}
@@ -53,10 +53,10 @@ pub record HaveRun (start : Start) (terms : ℕ) (next : Start)
   pub seen : Sees before (journals_of ends) after
   pub fits : 0 < terms → Fits start
 
--- fewer than `terms` terms have run from `start`, and for this reason there is not another
-pub record HaveStopped (start : Start) (terms : ℕ) (fault : TermsFault)
+-- this many terms have run from `start`, fewer than `terms`, and for this reason there is not another
+pub record HaveStopped (start : Start) (terms done : ℕ) (fault : TermFault)
     (before after : Option (List (List Entry))) : Type 0 where
   pub next : Start
-  pub run : HaveRun start fault.done next before after
-  pub fewer : fault.done < terms
-  pub why : IsTermFault next fault.fault
+  pub run : HaveRun start done next before after
+  pub fewer : done < terms
+  pub why : IsTermFault next fault

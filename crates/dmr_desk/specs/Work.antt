@@ -1,5 +1,6 @@
 -- The steps of a link's worker: a carrier's, or the operators'.
-use Rattle.std.specs.Prelude.{◌≡◌, ◌≤◌, true, List, [], ◌∷◌, ◌++◌, Option, Some, None, map}
+use Rattle.std.specs.Prelude.{◌≡◌, ◌≤◌, ◌+◌, ◌⊎◌, ℕ, true, List, [], ◌∷◌, ◌++◌, Option, Some, None}
+use Rattle.std.specs.Prelude.{length, map}
 use Rattle.dmr_wire.specs.Answers.{Answer, Opened, NotYet, Finished, Again, Silent, Reports}
 use Rattle.dmr_link.specs.declared.desk.Deposit.{Deposit}
 use Rattle.dmr_link.specs.declared.ended.Ended.{Ended}
@@ -11,6 +12,7 @@ use Rattle.dmr_link.specs.Happenings.{passages_in, Outside, stage_after_all, sta
 use Rattle.dmr_link.specs.Happenings.{EndsInBlock}
 use Rattle.dmr_link.specs.Limits.{most_reads}
 use Rattle.dmr_link.specs.Passages.{Passage}
+use Rattle.dmr_link.specs.Questions.{Questioned}
 use Rattle.dmr_link.specs.Recorded.{sessions_after_silence}
 use Rattle.dmr_link.specs.Sessions.{Session, new_session, with_calls, progress_at}
 use Rattle.dmr_link.specs.Sessions.{progress_after_answers, reads_in, AreOfWire, IsQuiet, IsOver}
@@ -31,14 +33,20 @@ pub record StationState : Type 0 where
 abbrev pub station_state : LinkState → Option (List Answer) → Option (List Passage) → StationState
 station_state link reported passed = record { link = link; reported = reported; passed = passed }
 
--- a station's state, and the desk's deposits so far
+-- a station's state, the desk's deposits so far, and how often the desk was asked whether the term is over, if it counts
+-- the questions
 pub record WorkState : Type 0 where
   pub at : StationState
   pub calls : List Deposit
+  pub questions : Option ℕ
 
--- the moment with this state and these deposits
+-- the moment with these three
+abbrev pub moment : StationState → List Deposit → Option ℕ → WorkState
+moment at calls questions = record { at = at; calls = calls; questions = questions }
+
+-- the moment with this state and these deposits, at a desk that counts no questions
 abbrev pub work_state : StationState → List Deposit → WorkState
-work_state at calls = record { at = at; calls = calls }
+work_state at calls = moment at calls None
 
 -- the reports of port, desk and gate at that moment
 abbrev pub sides_at : StationState → List Deposit → Sides
@@ -208,9 +216,27 @@ EndsFor ending.Finished link doings = HasFinished doings × IsOver link
 EndsFor ending.GateShut link doings = WasShut doings
 EndsFor ending.TermOver link doings = Unit {0}
 
--- a worker's whole work: steps that lead from `m` to `n`, and allow its ending
+-- the last step met a desk that refused an event: a call of `serve`, or a cut for silence
+abbrev pub WasRefused : List Step → Type 0
+WasRefused (Served happened ended.TermOver ∷ earlier) = Unit {0}
+WasRefused (Waited Silent deposits ∷ earlier) = Unit {0}
+WasRefused other = ⊥
+
+-- the desk was asked once for each step. If the term is over, it was asked once more, and then there was no other step;
+-- or else the last step met a refusal. So if the desk returns at the k-th question that the term is over, k - 1 steps
+-- were made: whatever a desk returns, the worker asks it before each step, and at no other time
+abbrev pub AsksForEach : Option ℕ → List Step → Ending → Option ℕ → Type 0
+AsksForEach before doings ending.TermOver after =
+    Questioned before (length doings + 1) after
+    ⊎ (WasRefused doings × Questioned before (length doings) after)
+AsksForEach before doings e after = Questioned before (length doings) after
+
+-- a worker's whole work: steps that lead from `m` to `n`, before each of which it asks the desk whether the term is over,
+-- and which allow its ending
 abbrev pub WorksUntil : WorkState → WorkState → Ending → Type 0
-WorksUntil m n e = (doings : List Step) × Steps m n doings × EndsFor e n.at.link doings
+WorksUntil m n e =
+    (doings : List Step) × Steps m n doings × EndsFor e n.at.link doings
+    × AsksForEach m.questions doings e n.questions
 
 -- ---- on the way
 
@@ -218,12 +244,13 @@ WorksUntil m n e = (doings : List Step) × Steps m n doings × EndsFor e n.at.li
 abbrev pub IsAtWork : WorkState → WorkState → Type 0
 IsAtWork m n =
     (doings : List Step) × Steps m n doings × (is_live n.at.link ≡ true → MayBeginServe doings)
+    × Questioned m.questions (length doings) n.questions
 
 -- the worker is about to wait
 abbrev pub IsAboutToWait : WorkState → WorkState → Type 0
 IsAboutToWait m n =
     (doings : List Step) × Steps m n doings × MayWait doings × IsQuiet n.at.link
-    × (n.at.link.unread ≡ [])
+    × (n.at.link.unread ≡ []) × Questioned m.questions (length doings) n.questions
 
 -- the work continues, or it has ended with this ending
 abbrev pub IsNextStep : WorkState → WorkState → Option Ending → Type 0

@@ -13,12 +13,11 @@ use crate::station::Serving;
 use crate::work::work_station;
 use std::snapshot::Snapshot;
 use std::sync::Wait;
-use std::sync::ledger::Ledger;
 use std::thread::Promise;
 
 /// The result of a link's worker.
 #[derive(Drop)]
-pub struct LinkWork<S, L: Ledger> {
+pub struct LinkWork<S, L: DeskLedger> {
     /// The station.
     pub station: S,
     /// The seat.
@@ -29,7 +28,7 @@ pub struct LinkWork<S, L: Ledger> {
 
 /// The ticker's result.
 #[derive(Drop)]
-pub struct TickerWork<T, L: Ledger> {
+pub struct TickerWork<T, L: DeskLedger> {
     /// The pacer.
     pub pacer: T,
     /// The seat.
@@ -42,7 +41,7 @@ pub struct TickerWork<T, L: Ledger> {
 #[derive(Drop)]
 pub struct LinkPromise<S>(pub Snapshot<S>, pub u8);
 
-impl<S: Serving, L: Ledger> Promise<LinkWork<S, L>> for LinkPromise<S> {
+impl<S: Serving, L: DeskLedger> Promise<LinkWork<S, L>> for LinkPromise<S> {
     ghost use Rattle.dmr_desk.specs.declared.ending.Ending.TheVariants.{GateShut};
 
     ghost kept_by = { λ p r. IsWorkDone p.1 (S.state p.0.value)
@@ -54,7 +53,7 @@ impl<S: Serving, L: Ledger> Promise<LinkWork<S, L>> for LinkPromise<S> {
 #[derive(Drop)]
 pub struct TickerPromise<T>(pub Snapshot<T>, pub u8);
 
-impl<T: Pacer, L: Ledger> Promise<TickerWork<T, L>> for TickerPromise<T> {
+impl<T: Pacer, L: DeskLedger> Promise<TickerWork<T, L>> for TickerPromise<T> {
     ghost kept_by = { λ p r. IsTicked p.1 (T.paced p.0.value) (T.paced r.pacer) r.seat r.ending };
 }
 

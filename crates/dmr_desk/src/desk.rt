@@ -1,20 +1,19 @@
 //! The desk: a book that a lock guards, and its seats.
 
 ghost use Rattle.std.specs.Prelude.{◌≡◌, ◌≤◌, ◌+◌, ◌↔◌, ◌⊎◌, length, true, false, IsTrue, IfOk};
-ghost use Rattle.std.specs.Prelude.{IfErr, OnOk};
-ghost use Rattle.dmr_desk.specs.BookState.{IsSoundBook, answer_to, book_with_entry};
+ghost use Rattle.std.specs.Prelude.{IfErr, IfSome, OnOk};
+ghost use Rattle.dmr_desk.specs.BookState.{AreOfActors, answer_to, book_with_entry};
 ghost use Rattle.dmr_desk.specs.Seats.{seat_with_deposit, empty_seats};
 ghost use Rattle.dmr_desk.specs.Limits.{most_actors};
 ghost use Rattle.dmr_desk.specs.Opening.{IsLimit, IsNumber, IsRefused};
-ghost use Rattle.dmr_desk.specs.Audited.{AreGathered, IsAudited, IsFault, IsLeastMissing};
-ghost use Rattle.dmr_desk.specs.Audited.{count_of_deposits, deposits_of_seats};
+ghost use Rattle.dmr_desk.specs.Audited.{IsAudited, IsFault, IsKept, IsLeastMissing, IsUnreported};
 
-use crate::audit::{audit_book, first_differing_alone, first_differing_in_threads, gather_views};
+use crate::audit::{audit_report, first_differing_alone, first_differing_in_threads, gather_views};
 use crate::book::Book;
 use crate::desk_ledger::DeskLedger;
 use crate::fault::{CloseFault, OpenFault};
 use crate::limits::{MOST_ACTORS, MOST_ENTRIES};
-use crate::report::{Report, Views};
+use crate::report::{Report, Unreported};
 use crate::seat::Seat;
 use crate::spare::SpareLists;
 use dmr_core::{Acts, Event, Site};
@@ -23,13 +22,13 @@ use dmr_pdu::OutOfMemory;
 use std::alloc::Global;
 use std::marker::Model;
 use std::sync::atomic::{AtomicBool, Ordering};
-use std::sync::ledger::{Blank, Ledger, Share};
+use std::sync::ledger::{Blank, Share};
 use std::sync::{Mutex, Wait, ledger};
 use std::thread::Threads;
 
 /// The content of the lock. `total` is the ledger's total, which is the number of the book's entries. `rest` has the
 /// parts of the ledger that no seat has. `actors` is the number of seats. By its type, the content belongs to the desk
-/// that the ledger names.
+/// that the ledger names, and each entry to an actor of that desk.
 #[derive(Drop)]
 struct Locked<L: DeskLedger> {
     book: Book,
@@ -39,6 +38,7 @@ struct Locked<L: DeskLedger> {
     abandoned: bool,
     ghost of_desk: { L.desk ≡ record { site = book.opening; limit = book.limit; actors = actors } },
     ghost counted: { length book.entries ≡ total.total },
+    ghost known: { AreOfActors actors book.entries },
     ghost rest_is: { rest.parts + actors ≡ most_actors },
     ghost rest_idle: { rest.amount ≡ 0 },
 }
@@ -92,18 +92,14 @@ impl<L: DeskLedger> Locked<L> {
         self.abandoned = true;
     }
 
-    /// Returns the book, and the view of each actor, moved out of its seat. The error is the least actor whose seat is
-    /// missing.
-    fn gather(self, seats: Vec<Seat<L>>) -> Result<(Book, Views), u8>
+    /// Returns what the desk kept: the site, the journal, and the view of each actor, moved out of its seat. The views are
+    /// not compared with the journal. The error is the least actor whose seat is missing.
+    fn gather(self, seats: Vec<Seat<L>>) -> Result<Report, u8>
         requires { L.parts ≡ most_actors }
-        ensures book { IfOk result (λ gathered. gathered.0 ≡ self.book) }
-        ensures views { IfOk result (λ gathered. AreGathered seats.items gathered.1.items) }
-        ensures actors { IfOk result (λ gathered. length gathered.1.items ≡ self.actors) }
-        ensures counted { IfOk result
-            (λ gathered. length self.book.entries ≡ count_of_deposits gathered.1.items) }
-        ensures seats { IfOk result
-            (λ gathered. count_of_deposits gathered.1.items ≡ deposits_of_seats seats.items) }
-        ensures sound { IsSoundBook self.book }
+        ensures kept { IfOk result (λ kept. IsKept
+            (record { site = self.book.opening; limit = self.book.limit; actors = self.actors })
+            seats.items kept) }
+        ensures journal { IfOk result (λ kept. kept.journal ≡ self.book.entries) }
         ensures missing { IfErr result (λ actor. IsLeastMissing seats.items self.actors actor) }
     {
         let Locked {
@@ -117,7 +113,12 @@ impl<L: DeskLedger> Locked<L> {
         match gather_views(seats, rest, actors) {
             Ok((views, mut all)) => {
                 total.audit(&mut all);
-                Ok((book, views))
+                let (site, journal) = book.into_parts();
+                Ok(Report {
+                    site,
+                    journal,
+                    views,
+                })
             }
             Err(actor) => {
                 drop(book);
@@ -127,25 +128,28 @@ impl<L: DeskLedger> Locked<L> {
     }
 
     /// Returns the report of the book and these seats. On an error a seat is missing, and the error names the least
-    /// such actor. If none is missing, a seat differs from the journal, and the error names the least such actor.
-    fn audit_seats(self, seats: Vec<Seat<L>>) -> Result<Report, CloseFault>
+    /// such actor. If none is missing, a seat differs from the journal of this book, and the error names the least such
+    /// actor, and has what the desk kept.
+    fn audit_seats(self, seats: Vec<Seat<L>>) -> Result<Report, Unreported>
         requires { L.parts ≡ most_actors }
         ensures ok { IfOk result (λ report. IsAudited
             (record { site = self.book.opening; limit = self.book.limit; actors = self.actors })
             seats.items report) }
-        ensures fault { IfErr result (λ fault. IsFault
+        ensures fault { IfErr result (λ unreported. IsUnreported
             (record { site = self.book.opening; limit = self.book.limit; actors = self.actors })
-            seats.items fault) }
+            seats.items unreported.fault unreported.kept) }
+        ensures journal { IfErr result (λ unreported. IfSome unreported.kept
+            (λ kept. kept.journal ≡ self.book.entries)) }
     {
         match self.gather(seats) {
-            Ok((book, views)) => {
-                let differing = first_differing_alone(&views, book.as_slice());
-                match audit_book(book, views, differing) {
-                    Ok(report) => Ok(report),
-                    Err(actor) => Err(CloseFault::Differs(actor)),
-                }
+            Ok(kept) => {
+                let differing = first_differing_alone(&kept.views, kept.journal.as_slice());
+                audit_report(kept, differing)
             }
-            Err(actor) => Err(CloseFault::SeatMissing(actor)),
+            Err(actor) => Err(Unreported {
+                fault: CloseFault::SeatMissing(actor),
+                kept: None,
+            }),
         }
     }
 
@@ -154,37 +158,44 @@ impl<L: DeskLedger> Locked<L> {
         self,
         rt: &R,
         seats: Vec<Seat<L>>,
-    ) -> Result<Report, CloseFault>
+    ) -> Result<Report, Unreported>
         requires { L.parts ≡ most_actors }
         ensures ok { IfOk result (λ report. IsAudited
             (record { site = self.book.opening; limit = self.book.limit; actors = self.actors })
             seats.items report) }
-        ensures fault { IfErr result (λ fault. IsFault
+        ensures fault { IfErr result (λ unreported. IsUnreported
             (record { site = self.book.opening; limit = self.book.limit; actors = self.actors })
-            seats.items fault) }
+            seats.items unreported.fault unreported.kept) }
+        ensures journal { IfErr result (λ unreported. IfSome unreported.kept
+            (λ kept. kept.journal ≡ self.book.entries)) }
     {
         match self.gather(seats) {
-            Ok((book, views)) => {
-                let differing = first_differing_in_threads(rt, &views, book.as_slice());
-                match audit_book(book, views, differing) {
-                    Ok(report) => Ok(report),
-                    Err(actor) => Err(CloseFault::Differs(actor)),
-                }
+            Ok(kept) => {
+                let differing = first_differing_in_threads(
+                    rt,
+                    &kept.views,
+                    kept.journal.as_slice(),
+                );
+                audit_report(kept, differing)
             }
-            Err(actor) => Err(CloseFault::SeatMissing(actor)),
+            Err(actor) => Err(Unreported {
+                fault: CloseFault::SeatMissing(actor),
+                kept: None,
+            }),
         }
     }
 }
 
 /// Returns the seats of the actors 0 to `actors - 1`, from lists that are kept if there are any. Each has one part of
 /// `rest`, in which nothing is counted yet. On an error an allocation was refused.
-fn seats_for<L: Ledger>(
+fn seats_for<L: DeskLedger>(
     alloc: Global,
     spare: &mut SpareLists,
     rest: &mut Share<L>,
     limit: usize,
     actors: u8,
 ) -> Result<Vec<Seat<L>>, OutOfMemory>
+    requires known { actors ≤ L.desk.actors }
     requires parts { actors ≤ rest.old.parts }
     requires idle { rest.old.amount ≡ 0 }
     ensures seats { IfOk result (λ seats. seats.items ≡ empty_seats actors) }
@@ -360,25 +371,35 @@ impl<L: DeskLedger> SharedDesk<L> {
     /// memory. On an error a seat is missing, and the error names the least such actor. If none is missing, a seat
     /// differs from the journal, and the error names the least such actor. The site, the journal and the seats are then
     /// lost. If a seat differs, the clause cannot name the journal, which the lock guarded. It says of the journal that
-    /// it is legal from the desk's site, within the desk's limit, and has one entry for each deposit of all seats.
+    /// it is legal from the desk's site, within the desk's limit, has one entry for each deposit of all seats, and no
+    /// entry of anybody but the desk's actors. What is done under the lock names it (`Locked::audit_seats`).
     pub fn close<R: Wait>(self, _rt: &R, seats: Vec<Seat<L>>) -> Result<Report, CloseFault>
         requires { L.parts ≡ most_actors }
         ensures ok { IfOk result (λ report. IsAudited self seats.items report) }
         ensures fault { IfErr result (λ fault. IsFault self seats.items fault) }
     {
         let SharedDesk { locked, .. } = self;
-        locked.into_inner().audit_seats(seats)
+        match locked.into_inner().audit_seats(seats) {
+            Ok(report) => Ok(report),
+            Err(unreported) => {
+                let Unreported { fault, kept } = unreported;
+                drop(kept);
+                Err(fault)
+            }
+        }
     }
 
-    /// Does the same as [`close`](SharedDesk::close). If the journal is long, several threads compare it with the seats.
+    /// Closes the desk as [`close`](SharedDesk::close) does. If the journal is long, several threads compare it with the
+    /// seats. The error also has what the desk kept, if no seat is missing.
     pub(crate) fn close_in_threads<R: Threads + Sync>(
         self,
         rt: &R,
         seats: Vec<Seat<L>>,
-    ) -> Result<Report, CloseFault>
+    ) -> Result<Report, Unreported>
         requires { L.parts ≡ most_actors }
         ensures ok { IfOk result (λ report. IsAudited self seats.items report) }
-        ensures fault { IfErr result (λ fault. IsFault self seats.items fault) }
+        ensures fault { IfErr result (λ unreported. IsUnreported self seats.items
+            unreported.fault unreported.kept) }
     {
         let SharedDesk { locked, .. } = self;
         locked.into_inner().audit_seats_in_threads(rt, seats)

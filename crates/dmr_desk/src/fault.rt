@@ -42,21 +42,11 @@ pub enum TermFault {
     /// next asked whether the term is over. The events that the workers had deposited are lost with the site.
     #[error("a thread could not be started")]
     NoThread,
-    /// The workers have ended, and the desk returned no report.
+    /// The workers have ended, and the desk returned no report. It is proved that no seat is missing.
     #[error("no report: {0}")]
     Audit(CloseFault),
     /// The workers have ended, and this actor, the least such, received the answer that the term is over while the
     /// journal was below its limit.
     #[error("actor {0} was told too early that the term is over")]
     Early(u8),
-}
-
-/// Why `run_terms` returns no state: one of its terms failed. The state is lost with that term.
-#[derive(Clone, Copy, PartialEq, Eq, Debug, Error)]
-#[error("after {done} terms: {fault}")]
-pub struct TermsFault {
-    /// The number of terms before it. They ended and were audited, and the observer saw their reports.
-    pub done: u32,
-    /// Why the term failed.
-    pub fault: TermFault,
 }

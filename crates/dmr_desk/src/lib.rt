@@ -12,13 +12,13 @@
 //!   of a [`Pacer`]. [`run_term`] starts a thread for each worker at one desk, waits for all of them, closes the desk,
 //!   and returns a [`Term`].
 //!
-//! Two things need no comparison. No entry belongs to another actor: a desk and its seats share the parts of a ledger,
-//! which counts each deposit. When all parts are together, the journal is exactly as long as all seats' lists. The
-//! content of the lock belongs to the desk's own site, limit and number of actors: the ledger names them
-//! ([`DeskLedger`]), and the content's type says that they agree.
+//! Three things need no comparison. The journal is exactly as long as all seats' lists: a desk and its seats share the
+//! parts of a ledger, which counts each deposit. The content of the lock belongs to the desk's own site, limit and number
+//! of actors: the ledger names them ([`DeskLedger`]), and the content's type says that they agree. No entry belongs to
+//! another actor: a seat's type says that its actor is one of that desk's.
 //!
-//! [`run_terms`] runs terms in a row, and an [`Observer`] sees each report. [`one_life`] says what all terms come to,
-//! and [`terms_go_on`] how rows of terms join.
+//! Each term goes on from the [`Service`] that the one before it left ([`try_term`]), and an [`Observer`] sees each
+//! report. [`one_life`] says what all terms come to, and [`terms_go_on`] how rows of terms join.
 //!
 //! [`one_record`] and [`one_meaning`] say what all connections of a worker mean together.
 #![tactic(auto)]
@@ -55,7 +55,7 @@ pub use desk::SharedDesk;
 pub use desk_ledger::DeskLedger;
 pub use dmr_core::Entry;
 pub use ending::Ending;
-pub use fault::{CloseFault, OpenFault, TermFault, TermsFault};
+pub use fault::{CloseFault, OpenFault, TermFault};
 pub use laws::{faults_account, reports_account};
 pub use life::{one_life, terms_go_on};
 pub use limits::{MOST_ACTORS, MOST_ENTRIES, PARTS, limits_are_stated};
@@ -68,6 +68,6 @@ pub use service::{Refused, Service};
 pub use spare::SpareLists;
 pub use station::{ConsoleStation, Station};
 pub use term::Term;
-pub use terms::{Observer, run_terms, try_next};
+pub use terms::Observer;
 pub use view::View;
 pub use work::{work_carrier, work_console};

@@ -1,14 +1,16 @@
 //! Running a term.
 
-ghost use Rattle.std.specs.Prelude.{◌≡◌, ◌+◌, ◌-◌, ◌≤◌, ◌↔◌, ℕ, [], IfErr, IfOk, IsTrue, None};
-ghost use Rattle.std.specs.Prelude.{OnOk, Some, map, slice_get, true, vec_capacity, vec_len};
+ghost use Rattle.std.specs.Prelude.{◌≡◌, ◌+◌, ◌-◌, ◌≤◌, ◌↔◌, ℕ, [], IfErr, IfOk, IsTrue};
+ghost use Rattle.std.specs.Prelude.{OnOk, Some, map, option_map, slice_get, true, vec_capacity};
+ghost use Rattle.std.specs.Prelude.{vec_len};
 ghost use Rattle.dmr_desk.specs.Limits.{most_actors};
 ghost use Rattle.dmr_desk.specs.Opening.{IsLimit};
-ghost use Rattle.dmr_desk.specs.Refusing.{AreStations, IsFaultFor, IsTermFault, carrier_of_peer};
-ghost use Rattle.dmr_desk.specs.Refusing.{left_at, numbers_from, starts_threads};
+ghost use Rattle.dmr_desk.specs.Refusing.{IsEndAt, IsFaultFor, IsTermFault};
+ghost use Rattle.dmr_desk.specs.Refusing.{carrier_of_peer, left_at, numbers_from, starts_threads};
 ghost use Rattle.dmr_desk.specs.Seats.{empty_seats};
+ghost use Rattle.dmr_desk.specs.Service.{AreShut, console_of, end_at, start_at, states_of};
 ghost use Rattle.dmr_desk.specs.Term.{IsTerm, end_of_term, start_of_term};
-ghost use Rattle.dmr_desk.specs.Work.{station_state};
+ghost use Rattle.dmr_desk.specs.Terms.{Fits};
 
 use crate::actors::LinkWork;
 use crate::desk::SharedDesk;
@@ -21,7 +23,7 @@ use crate::seat::Seat;
 use crate::service::{Refused, Service};
 use crate::spare::SpareLists;
 use crate::station::{ConsoleStation, Serving, Station};
-use crate::term::{HandedBack, Term, close_term, run_threads};
+use crate::term::{FailedTerm, HandedBack, Term, close_term, run_threads};
 use arrayvec::ArrayVec;
 use dmr_core::Site;
 use dmr_link::Gate;
@@ -31,7 +33,7 @@ use dmr_wire::Port;
 use std::alloc::Global;
 use std::marker::Brand;
 use std::sync::Wait;
-use std::sync::ledger::{Blank, Ledger};
+use std::sync::ledger::Blank;
 use std::thread::Threads;
 
 /// Whether these are the stations of the plan's carriers among the last `many` carrier numbers, in the order of their
@@ -62,7 +64,7 @@ fn are_stations<P, G>(plan: &Plan, many: u32, stations: &[Station<P, G>]) -> boo
 
 /// Allocates room for the results of the workers of `stations` stations, the ticker and the console. On an error an
 /// allocation was refused.
-fn room_for<S: Drop, L: Ledger>(
+fn room_for<S: Drop, L: DeskLedger>(
     alloc: Global,
     stations: usize,
 ) -> Result<(Vec<LinkWork<S, L>>, HandedBack<S, L>), OutOfMemory>
@@ -95,7 +97,7 @@ fn run_opened<S, T, C, L, R>(
     console: C,
     room: Vec<LinkWork<S, L>>,
     back: HandedBack<S, L>,
-) -> Result<Term<S, T, C>, TermFault>
+) -> Result<Term<S, T, C>, FailedTerm<S, T, C>>
 where
     S: Serving + Send + Drop,
     T: Pacer + Send + Drop,
@@ -124,16 +126,24 @@ where
     ensures open { IfOk result
         (λ t. slice_get t.ends.items (vec_len stations + 1) ≡ Some Ending.GateShut
         → C.shut t.console) }
-    ensures fault { IfErr result (IsFaultFor (start_of_term desk.site desk.limit
-        (map (λ s. S.state s) stations.items) (T.paced pacer) (C.state console))) }
-    ensures late { IfErr result (λ fault. starts_threads fault ≡ true) }
+    ensures fault { IfErr result (λ failed. IsFaultFor (start_of_term desk.site desk.limit
+        (map (λ s. S.state s) stations.items) (T.paced pacer) (C.state console)) failed.fault) }
+    ensures threads { IfErr result (λ failed. starts_threads failed.fault ≡ true) }
+    ensures ended { IfErr result (λ failed. IsEndAt (start_of_term desk.site desk.limit
+        (map (λ s. S.state s) stations.items) (T.paced pacer) (C.state console)) failed.fault
+        (option_map (λ t. end_of_term t.report t.ends.items
+        (map (λ s. S.state s) t.stations.items) (T.paced t.pacer) (C.state t.console))
+        failed.ended)) }
 {
     match run_threads(rt, &desk, stations, seats, pacer, console, room) {
         Some(all) => close_term(rt, desk, limit, all, back),
         None => {
             drop(desk);
             drop(back);
-            Err(TermFault::NoThread)
+            Err(FailedTerm {
+                fault: TermFault::NoThread,
+                ended: None,
+            })
         }
     }
 }
@@ -164,25 +174,20 @@ where
       limit = limit;
       actors = vec_len service.stations + 2;
     } }
-    ensures term { IfOk result (λ t. IsTerm (start_of_term service.site limit
-        (map (λ s. station_state s.link (P.reported s.port) (G.passed s.gate))
-        service.stations.items) (T.paced service.pacer)
-        (station_state service.console.link (C.reported service.console.port) None))
-        (end_of_term t.report t.ends.items
-        (map (λ s. station_state s.link (P.reported s.port) (G.passed s.gate)) t.stations.items)
-        (T.paced t.pacer) (station_state t.console.link (C.reported t.console.port) None))) }
-    ensures shut { IfOk result (λ t. (k : ℕ) (s : _) → slice_get t.stations.items k ≡ Some s
-        → slice_get t.ends.items k ≡ Some Ending.GateShut → (before : _) × G.shuts before s.gate) }
+    ensures term { IfOk result (λ t. IsTerm
+        (start_at P.reported G.passed T.paced C.reported limit service)
+        (end_at P.reported G.passed T.paced C.reported t)) }
+    ensures shut { IfOk result (AreShut G.shuts) }
     ensures open { IfOk result
         (λ t. slice_get t.ends.items (vec_len service.stations + 1) ≡ Some Ending.GateShut
         → ⊥) }
-    ensures fault { IfErr result (λ refused. IsFaultFor (start_of_term service.site limit
-        (map (λ s. station_state s.link (P.reported s.port) (G.passed s.gate))
-        service.stations.items) (T.paced service.pacer)
-        (station_state service.console.link (C.reported service.console.port) None))
-        refused.fault) }
+    ensures fault { IfErr result (λ refused. IsFaultFor
+        (start_at P.reported G.passed T.paced C.reported limit service) refused.fault) }
     ensures left { IfErr result
         (λ refused. refused.left ≡ left_at refused.fault service) }
+    ensures ended { IfErr result (λ refused. IsEndAt
+        (start_at P.reported G.passed T.paced C.reported limit service) refused.fault
+        (option_map (end_at P.reported G.passed T.paced C.reported) refused.ended)) }
 {
     let Service {
         site,
@@ -202,6 +207,7 @@ where
                 console,
                 spare,
             }),
+            ended: None,
         });
     };
     let actors = count as u8 + 2;
@@ -221,19 +227,27 @@ where
                     console,
                     spare,
                 }),
+                ended: None,
             });
         }
     };
     drop(spare);
     match run_opened(rt, desk, limit, seats, stations, pacer, console, room, back) {
         Ok(term) => Ok(term),
-        Err(fault) => Err(Refused { fault, left: None }),
+        Err(failed) => {
+            let FailedTerm { fault, ended } = failed;
+            Err(Refused {
+                fault,
+                left: None,
+                ended,
+            })
+        }
     }
 }
 
 /// Runs a term, as [`run_term`] does, from a service. If no thread was started, the error hands back the service as it
-/// was: at `BadStations`, and at `Open`, so if memory ran out. The same term can then be tried again. At the other
-/// faults the service is lost.
+/// was: at `BadStations`, and at `Open`, so if memory ran out. The same term can then be tried again. If all workers have
+/// ended, at `Early` and at `Audit`, it hands back the term as they left it. At `NoThread` the service is lost.
 pub fn try_term<P, G, T, C, R>(
     rt: &R,
     alloc: Global,
@@ -246,40 +260,36 @@ where
     T: Pacer + Send + Drop,
     C: Port + Send + Drop,
     R: Wait + Threads + Sync,
-    ensures term { IfOk result (λ t. IsTerm (start_of_term service.site limit
-        (map (λ s. station_state s.link (P.reported s.port) (G.passed s.gate))
-        service.stations.items) (T.paced service.pacer)
-        (station_state service.console.link (C.reported service.console.port) None))
-        (end_of_term t.report t.ends.items
-        (map (λ s. station_state s.link (P.reported s.port) (G.passed s.gate)) t.stations.items)
-        (T.paced t.pacer) (station_state t.console.link (C.reported t.console.port) None))) }
-    ensures shut { IfOk result (λ t. (k : ℕ) (s : _) → slice_get t.stations.items k ≡ Some s
-        → slice_get t.ends.items k ≡ Some Ending.GateShut → (before : _) × G.shuts before s.gate) }
+    ensures term { IfOk result (λ t. IsTerm
+        (start_at P.reported G.passed T.paced C.reported limit service)
+        (end_at P.reported G.passed T.paced C.reported t)) }
+    ensures shut { IfOk result (AreShut G.shuts) }
     ensures open { IfOk result
         (λ t. slice_get t.ends.items (vec_len service.stations + 1) ≡ Some Ending.GateShut
         → ⊥) }
-    ensures fault { IfErr result (λ refused. IsTermFault (start_of_term service.site limit
-        (map (λ s. station_state s.link (P.reported s.port) (G.passed s.gate))
-        service.stations.items) (T.paced service.pacer)
-        (station_state service.console.link (C.reported service.console.port) None))
-        refused.fault) }
+    ensures fault { IfErr result (λ refused. IsTermFault
+        (start_at P.reported G.passed T.paced C.reported limit service) refused.fault) }
     // All of the service is as it was: the site, the links' states and the ports' records among the rest.
     ensures left { IfErr result
         (λ refused. refused.left ≡ left_at refused.fault service) }
-    ensures fits { OnOk result (AreStations service.site.plan
-        (map (λ s. station_state s.link (P.reported s.port) (G.passed s.gate))
-        service.stations.items) × IsLimit limit) }
+    // At `Early` this term is what the worker's answers, the ports and the pacer made of it. It is not chosen by the body.
+    ensures ended { IfErr result (λ refused. IsEndAt
+        (start_at P.reported G.passed T.paced C.reported limit service) refused.fault
+        (option_map (end_at P.reported G.passed T.paced C.reported) refused.ended)) }
+    ensures fits { OnOk result (Fits (start_at P.reported G.passed T.paced C.reported limit service)) }
 {
     if !are_stations(service.site.plan(), 16, service.stations.as_slice()) {
         return Err(Refused {
             fault: TermFault::BadStations,
             left: Some(service),
+            ended: None,
         });
     }
     if limit == 0 || limit > MOST_ENTRIES {
         return Err(Refused {
             fault: TermFault::Open(OpenFault::BadLimit),
             left: Some(service),
+            ended: None,
         });
     }
     run_over::<P, G, T, C, Brand, R>(rt, alloc, Blank::new(PARTS), limit, service)
@@ -309,22 +319,19 @@ where
     C: Port + Send + Drop,
     R: Wait + Threads + Sync,
     ensures term { IfOk result (λ t. IsTerm (start_of_term site limit
-        (map (λ s. station_state s.link (P.reported s.port) (G.passed s.gate)) stations.items)
-        (T.paced pacer) (station_state console.link (C.reported console.port) None))
-        (end_of_term t.report t.ends.items
-        (map (λ s. station_state s.link (P.reported s.port) (G.passed s.gate)) t.stations.items)
-        (T.paced t.pacer) (station_state t.console.link (C.reported t.console.port) None))) }
-    ensures shut { IfOk result (λ t. (k : ℕ) (s : _) → slice_get t.stations.items k ≡ Some s
-        → slice_get t.ends.items k ≡ Some Ending.GateShut → (before : _) × G.shuts before s.gate) }
+        (states_of P.reported G.passed stations.items) (T.paced pacer)
+        (console_of C.reported console))
+        (end_at P.reported G.passed T.paced C.reported t)) }
+    ensures shut { IfOk result (AreShut G.shuts) }
     ensures open { IfOk result
         (λ t. slice_get t.ends.items (vec_len stations + 1) ≡ Some Ending.GateShut
         → ⊥) }
     ensures fault { IfErr result (IsTermFault (start_of_term site limit
-        (map (λ s. station_state s.link (P.reported s.port) (G.passed s.gate)) stations.items)
-        (T.paced pacer) (station_state console.link (C.reported console.port) None))) }
-    ensures fits { OnOk result (AreStations site.plan
-        (map (λ s. station_state s.link (P.reported s.port) (G.passed s.gate)) stations.items)
-        × IsLimit limit) }
+        (states_of P.reported G.passed stations.items) (T.paced pacer)
+        (console_of C.reported console))) }
+    ensures fits { OnOk result (Fits (start_of_term site limit
+        (states_of P.reported G.passed stations.items) (T.paced pacer)
+        (console_of C.reported console))) }
 {
     let service = Service {
         site,
@@ -336,8 +343,9 @@ where
     match try_term(rt, alloc, limit, service) {
         Ok(term) => Ok(term),
         Err(refused) => {
-            let Refused { fault, left } = refused;
+            let Refused { fault, left, ended } = refused;
             drop(left);
+            drop(ended);
             Err(fault)
         }
     }

@@ -1,10 +1,11 @@
 //! A seat at the desk.
 
-ghost use Rattle.std.specs.Prelude.{◌≡◌, ◌≤◌, ◌+◌, [], length, IfOk, IfErr, OnOk};
+ghost use Rattle.std.specs.Prelude.{◌≡◌, ◌<◌, ◌≤◌, ◌+◌, [], length, IfOk, IfErr, OnOk};
 ghost use Rattle.dmr_desk.specs.BookState.{answer_to, book_with_entry};
 ghost use Rattle.dmr_desk.specs.Seats.{seat_with_deposit};
 
 use crate::book::Book;
+use crate::desk_ledger::DeskLedger;
 use crate::room::push_copy;
 use crate::spare::SpareLists;
 use crate::view::deposit_of;
@@ -14,21 +15,21 @@ use dmr_pdu::OutOfMemory;
 use std::alloc::Global;
 use std::marker::Model;
 use std::sync::ledger;
-use std::sync::ledger::{Ledger, Share};
+use std::sync::ledger::Share;
 
 /// One actor's place at a desk: the actor's number and the deposits, in order. Contracts see both. By the ledger `L` it
-/// fits only the desk that it was opened with. It has room for as many deposits as that desk's journal may have
+/// fits only the desk that it was opened with, and its actor is one of that desk's. It has room for as many deposits as that desk's journal may have
 /// entries.
 #[derive(Drop)]
-pub struct Seat<L: Ledger> {
+pub struct Seat<L: DeskLedger> {
     actor: u8,
     deposits: Vec<Deposit>,
     limit: usize,
     share: Share<L>,
 }
 
-impl<L: Ledger> Model for Seat<L> {
-    ghost use Rattle.std.specs.Prelude.{◌≡◌, ◌≤◌, vec_len, vec_capacity};
+impl<L: DeskLedger> Model for Seat<L> {
+    ghost use Rattle.std.specs.Prelude.{◌≡◌, ◌<◌, ◌≤◌, vec_len, vec_capacity};
     ghost use Rattle.dmr_desk.specs.Seats.{SeatState};
 
     ghost Value = { SeatState };
@@ -36,11 +37,11 @@ impl<L: Ledger> Model for Seat<L> {
     ghost view = { λ s. record { actor = s.actor; deposits = s.deposits.items } };
 
     ghost invariant = { λ s. (s.share.parts ≡ 1) × (s.share.amount ≡ vec_len s.deposits)
-        × (s.limit ≤ vec_capacity s.deposits) };
+        × (s.limit ≤ vec_capacity s.deposits) × (s.actor < L.desk.actors) };
 }
 
-impl<L: Ledger> Seat<L> {
-    /// Makes the seat of an actor, with room for `limit` deposits. If a list with the room is kept, its memory is used.
+impl<L: DeskLedger> Seat<L> {
+    /// Makes the seat of an actor of the ledger's desk, with room for `limit` deposits. If a list with the room is kept, its memory is used.
     /// On an error an allocation was refused.
     pub(crate) fn new(
         alloc: Global,
@@ -49,6 +50,7 @@ impl<L: Ledger> Seat<L> {
         limit: usize,
         share: Share<L>,
     ) -> Result<Seat<L>, OutOfMemory>
+        requires known { actor < L.desk.actors }
         requires part { share.parts ≡ 1 }
         requires idle { share.amount ≡ 0 }
         ensures { IfOk result (λ seat. seat ≡ record { actor = actor; deposits = [] }) }
@@ -93,6 +95,7 @@ impl<L: Ledger> Seat<L> {
         ensures deposited { OnOk result
             (self.new ≡ seat_with_deposit self.old event.now acts.new) }
         ensures counted { OnOk result (total.new.total ≡ total.old.total + 1) }
+        ensures known { self.old.actor < L.desk.actors }
         ensures among { IfErr result (λ over. length self.old.deposits ≤ total.old.total) }
         ensures over { IfErr result (λ over. (book.new ≡ book.old) × (self.new ≡ self.old)
             × (acts.new ≡ acts.old) × (total.new.total ≡ total.old.total)

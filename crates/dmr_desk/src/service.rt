@@ -3,6 +3,7 @@
 use crate::fault::TermFault;
 use crate::spare::SpareLists;
 use crate::station::{ConsoleStation, Station};
+use crate::term::Term;
 use dmr_core::Site;
 
 /// The state that continues from term to term.
@@ -26,7 +27,10 @@ pub struct Refused<P, G, T, C> {
     /// The first fault that applies.
     pub fault: TermFault,
     /// The service as it was handed in, if no thread was started: at `BadStations` and at `Open`. At `OutOfMemory` some
-    /// lists in `spare` may be lost, which contracts do not see. At the other faults the service is lost, and this is
-    /// `None`.
+    /// lists in `spare` may be lost, which contracts do not see. At the other faults this is `None`.
     pub left: Option<Service<P, G, T, C>>,
+    /// The term as its workers left it, if they have ended: at `Early` and at `Audit`. Of an `Early` term all holds that
+    /// holds of a term, except that the worker of this actor ended too early. At `Audit` the report is what the desk
+    /// kept, and the view of this actor differs from the journal. At the other faults this is `None`.
+    pub ended: Option<Term<Station<P, G>, T, ConsoleStation<C>>>,
 }

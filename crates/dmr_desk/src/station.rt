@@ -57,6 +57,7 @@ pub trait Serving {
     /// Serves the link until it has to stop.
     fn serve<D: Desk>(&mut self, desk: &mut D) -> Ended
         ensures actor { D.actor desk.new ≡ D.actor desk.old }
+        ensures questions { D.questions desk.new ≡ D.questions desk.old }
         ensures serves { Serves (state self.old).link (state self.new).link
             (sides_at (state self.old) (D.calls desk.old))
             (sides_at (state self.new) (D.calls desk.new)) result }
@@ -74,6 +75,7 @@ pub trait Serving {
     fn cut<D: Desk>(&mut self, desk: &mut D) -> Result<(), TermOver>
         requires { is_live (state self.old).link ≡ true }
         ensures actor { D.actor desk.new ≡ D.actor desk.old }
+        ensures questions { D.questions desk.new ≡ D.questions desk.old }
         ensures turns { ChangesLink (state self.old) (state self.new) }
         ensures cuts { Cuts (state self.old).link (state self.new).link (D.calls desk.old)
             (D.calls desk.new) }

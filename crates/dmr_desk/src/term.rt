@@ -2,11 +2,11 @@
 
 ghost use Rattle.std.specs.Prelude.{◌≡◌, ◌+◌, ◌≤◌, ◌<◌, ◌++◌, ◌∷◌, [], ℕ, All, List, Option, Some};
 ghost use Rattle.std.specs.Prelude.{IfOk, IfErr, IfSome, map, slice_get, vec_len, vec_capacity};
-ghost use Rattle.std.specs.Prelude.{length};
+ghost use Rattle.std.specs.Prelude.{length, option_map, true};
 ghost use Rattle.arrayvec.specs.ArrayVec.{array_vec_len};
 ghost use Rattle.dmr_desk.specs.Limits.{most_actors};
 ghost use Rattle.dmr_desk.specs.Pace.{Paced};
-ghost use Rattle.dmr_desk.specs.Refusing.{IsLate, early_actor, first_over};
+ghost use Rattle.dmr_desk.specs.Refusing.{IsEndAt, early_actor, first_over, is_late};
 ghost use Rattle.dmr_desk.specs.Seats.{empty_seats};
 ghost use Rattle.dmr_desk.specs.Term.{AllDone, IsWorkDone, IsTerm, IsTicked, work_done};
 ghost use Rattle.dmr_desk.specs.Term.{end_of_term, start_of_term};
@@ -19,16 +19,16 @@ use crate::ending::Ending;
 use crate::fault::TermFault;
 use crate::limits::MOST_ACTORS;
 use crate::pace::Pacer;
-use crate::report::{Journal, Report};
+use crate::report::{Journal, Report, Unreported};
 use crate::seat::Seat;
 use crate::station::Serving;
 use crate::threads::{AllWork, TickerAndConsole, Workers, run_workers};
 use arrayvec::ArrayVec;
 use std::sync::Wait;
-use std::sync::ledger::Ledger;
 use std::thread::Threads;
 
-/// The result of a term. All its workers have ended, and the desk returned its report.
+/// The result of a term. All its workers have ended, and the desk returned its report. A term that failed with `Audit`
+/// has what the desk kept as its report.
 #[derive(Drop)]
 pub struct Term<S, T, C> {
     /// The site, the journal, and each actor's events with their answers.
@@ -41,6 +41,15 @@ pub struct Term<S, T, C> {
     pub pacer: T,
     /// The console.
     pub console: C,
+}
+
+/// Why a term whose threads were started is not returned, with what its workers left.
+#[derive(Drop)]
+pub struct FailedTerm<S, T, C> {
+    /// The first fault that applies.
+    pub fault: TermFault,
+    /// The term as its workers left it, if they have ended: at `Early` and at `Audit`.
+    pub ended: Option<Term<S, T, C>>,
 }
 
 /// The number of the first worker that ended because the term was over; numbers begin with `from`.
@@ -72,7 +81,7 @@ fn find_early_actor(
 
 /// The workers' results, each kind in a list of its own.
 #[derive(Drop)]
-pub struct HandedBack<S, L: Ledger> {
+pub struct HandedBack<S, L: DeskLedger> {
     /// The stations.
     pub stations: Vec<S>,
     /// The seats.
@@ -82,7 +91,7 @@ pub struct HandedBack<S, L: Ledger> {
 }
 
 /// Splits the results of the carriers' workers, and appends them to `back`.
-fn split_works<S: Drop, L: Ledger>(
+fn split_works<S: Drop, L: DeskLedger>(
     mut works: Vec<LinkWork<S, L>>,
     back: HandedBack<S, L>,
 ) -> HandedBack<S, L>
@@ -115,7 +124,7 @@ fn split_works<S: Drop, L: Ledger>(
 }
 
 /// Splits the results of all workers: the carriers', then the ticker's, then the console's.
-fn split_all_works<S: Drop, T: Drop, C: Drop, L: Ledger>(
+fn split_all_works<S: Drop, T: Drop, C: Drop, L: DeskLedger>(
     all: AllWork<S, T, C, L>,
     back: HandedBack<S, L>,
 ) -> (HandedBack<S, L>, T, C)
@@ -147,14 +156,14 @@ fn split_all_works<S: Drop, T: Drop, C: Drop, L: Ledger>(
 }
 
 /// Closes the desk with the workers' seats. `back` has room for their results. On an error the desk returned no report,
-/// or else a worker ended early; the error names the least such actor. What was handed in is then lost.
+/// or else a worker ended early; the error names the least such actor, and has the term as the workers left it.
 pub fn close_term<S, T, C, L, R>(
     rt: &R,
     desk: SharedDesk<L>,
     limit: usize,
     all: AllWork<S, T, C, L>,
     back: HandedBack<S, L>,
-) -> Result<Term<S, T, C>, TermFault>
+) -> Result<Term<S, T, C>, FailedTerm<S, T, C>>
 where
     S: Serving + Drop,
     T: Pacer + Drop,
@@ -188,14 +197,18 @@ where
         (λ t. (all.console.ending ≡ Ending.GateShut → C.shut all.console.station)
         → slice_get t.ends.items (vec_len all.carriers + 1) ≡ Some Ending.GateShut
         → C.shut t.console) }
-    ensures late { IfErr result (λ fault. (stations : List StationState) (pacer : Option Paced)
+    ensures ended { IfErr result (λ failed. (stations : List StationState) (pacer : Option Paced)
         (console : StationState) → AllDone 0 stations
         (map (λ w. work_done (S.state w.station) w.seat w.ending) all.carriers.items)
         → IsTicked (length stations) pacer
         (T.paced all.ticker.pacer) all.ticker.seat all.ticker.ending
         → IsWorkDone (length stations + 1) console
         (work_done (C.state all.console.station) all.console.seat all.console.ending)
-        → IsLate (start_of_term desk.site desk.limit stations pacer console) fault) }
+        → IsEndAt (start_of_term desk.site desk.limit stations pacer console) failed.fault
+        (option_map (λ t. end_of_term t.report t.ends.items
+        (map (λ s. S.state s) t.stations.items) (T.paced t.pacer) (C.state t.console))
+        failed.ended)) }
+    ensures late { IfErr result (λ failed. is_late failed.fault ≡ true) }
 {
     let (back, pacer, console) = split_all_works(all, back);
     let HandedBack {
@@ -203,22 +216,43 @@ where
         seats,
         ends,
     } = back;
-    let report = match desk.close_in_threads(rt, seats) {
-        Ok(report) => report,
-        Err(fault) => return Err(TermFault::Audit(fault)),
-    };
-    match find_early_actor(&report.journal, limit, &ends) {
-        Some(actor) => {
-            drop(report);
-            Err(TermFault::Early(actor))
+    match desk.close_in_threads(rt, seats) {
+        Ok(report) => {
+            let early = find_early_actor(&report.journal, limit, &ends);
+            let term = Term {
+                report,
+                ends,
+                stations,
+                pacer,
+                console,
+            };
+            match early {
+                Some(actor) => Err(FailedTerm {
+                    fault: TermFault::Early(actor),
+                    ended: Some(term),
+                }),
+                None => Ok(term),
+            }
         }
-        None => Ok(Term {
-            report,
-            ends,
-            stations,
-            pacer,
-            console,
-        }),
+        Err(unreported) => {
+            let Unreported { fault, kept } = unreported;
+            match kept {
+                Some(report) => Err(FailedTerm {
+                    fault: TermFault::Audit(fault),
+                    ended: Some(Term {
+                        report,
+                        ends,
+                        stations,
+                        pacer,
+                        console,
+                    }),
+                }),
+                None => Err(FailedTerm {
+                    fault: TermFault::Audit(fault),
+                    ended: None,
+                }),
+            }
+        }
     }
 }
 

@@ -16,13 +16,12 @@ use crate::seat::Seat;
 use crate::station::Serving;
 use std::snapshot::Snapshot;
 use std::sync::Wait;
-use std::sync::ledger::Ledger;
 use std::thread;
 use std::thread::{Scope, Threads};
 
 /// The pacer and the console, with their seats.
 #[derive(Drop)]
-pub struct TickerAndConsole<T, C, L: Ledger> {
+pub struct TickerAndConsole<T, C, L: DeskLedger> {
     /// The pacer.
     pub pacer: T,
     /// The ticker's seat.
@@ -35,7 +34,7 @@ pub struct TickerAndConsole<T, C, L: Ledger> {
 
 /// The results of all workers.
 #[derive(Drop)]
-pub struct AllWork<S, T, C, L: Ledger> {
+pub struct AllWork<S, T, C, L: DeskLedger> {
     /// The results of the carriers' workers, in the order of their stations.
     pub carriers: Vec<LinkWork<S, L>>,
     /// The ticker's result.
@@ -142,7 +141,7 @@ where
 }
 
 /// Reports to the pacer that the term is over, although it was not started. A started worker that waits may be woken.
-fn report_to_pacer<T: Pacer + Drop, C: Drop, L: Ledger>(others: TickerAndConsole<T, C, L>) {
+fn report_to_pacer<T: Pacer + Drop, C: Drop, L: DeskLedger>(others: TickerAndConsole<T, C, L>) {
     let mut others = others;
     others.pacer.term_over();
 }
@@ -226,7 +225,7 @@ where
 
 /// The crew of a term: the stations, the pacer and the console, a new seat for each, and room for the results.
 #[derive(Drop)]
-pub struct Workers<S, T, C, L: Ledger> {
+pub struct Workers<S, T, C, L: DeskLedger> {
     /// The stations.
     pub stations: Vec<S>,
     /// Their seats.

@@ -5,7 +5,7 @@ ghost use Rattle.std.specs.Prelude.{◌≡◌, ◌⊎◌, true, false, None, Som
 ghost use Rattle.dmr_core.specs.declared.event.Event.{Event as AnEvent};
 ghost use Rattle.dmr_link.specs.declared.desk.TermOver.{TermOver as ATermOver};
 ghost use Rattle.dmr_link.specs.LinkSteps.{is_live};
-ghost use Rattle.dmr_desk.specs.Work.{station_state, work_state, IsAtWork, IsAboutToWait};
+ghost use Rattle.dmr_desk.specs.Work.{station_state, moment, IsAtWork, IsAboutToWait};
 ghost use Rattle.dmr_desk.specs.Work.{IsNextStep, WorksUntil};
 
 use crate::ending::Ending;
@@ -19,8 +19,8 @@ use std::sync::Wait;
 fn ask_for_connection<S: Serving, D: Desk>(station: &mut S, desk: &mut D) -> Option<Ending>
     requires { is_live (S.state station.old).link ≡ false }
     ensures actor { D.actor desk.new ≡ D.actor desk.old }
-    ensures goes { (m : _) → IsAtWork m (work_state (S.state station.old) (D.calls desk.old))
-        → IsNextStep m (work_state (S.state station.new) (D.calls desk.new)) result }
+    ensures goes { (m : _) → IsAtWork m (moment (S.state station.old) (D.calls desk.old) (D.questions desk.old))
+        → IsNextStep m (moment (S.state station.new) (D.calls desk.new) (D.questions desk.new)) result }
     ensures shut { result ≡ Some Ending.GateShut → ⊥ }
     ensures over { result ≡ Some Ending.TermOver → (before : _) × D.ends before desk.new }
 {
@@ -42,8 +42,8 @@ fn ask_for_connection<S: Serving, D: Desk>(station: &mut S, desk: &mut D) -> Opt
 fn wait_for_port<S: Serving, D: Desk>(station: &mut S, desk: &mut D) -> Option<Ending>
     requires { is_live (S.state station.old).link ≡ true }
     ensures actor { D.actor desk.new ≡ D.actor desk.old }
-    ensures goes { (m : _) → IsAboutToWait m (work_state (S.state station.old) (D.calls desk.old))
-        → IsNextStep m (work_state (S.state station.new) (D.calls desk.new)) result }
+    ensures goes { (m : _) → IsAboutToWait m (moment (S.state station.old) (D.calls desk.old) (D.questions desk.old))
+        → IsNextStep m (moment (S.state station.new) (D.calls desk.new) (D.questions desk.new)) result }
     ensures shut { result ≡ Some Ending.GateShut → ⊥ }
     ensures over { result ≡ Some Ending.TermOver
         → ((before : _) × (event : AnEvent) × (over : ATermOver)
@@ -70,8 +70,8 @@ fn wait_for_port<S: Serving, D: Desk>(station: &mut S, desk: &mut D) -> Option<E
 fn serve_once<S: Serving, D: Desk>(station: &mut S, desk: &mut D) -> Option<Ending>
     requires { is_live (S.state station.old).link ≡ true }
     ensures actor { D.actor desk.new ≡ D.actor desk.old }
-    ensures goes { (m : _) → IsAtWork m (work_state (S.state station.old) (D.calls desk.old))
-        → IsNextStep m (work_state (S.state station.new) (D.calls desk.new)) result }
+    ensures goes { (m : _) → IsAtWork m (moment (S.state station.old) (D.calls desk.old) (D.questions desk.old))
+        → IsNextStep m (moment (S.state station.new) (D.calls desk.new) (D.questions desk.new)) result }
     ensures shut { result ≡ Some Ending.GateShut → S.shut station.new }
     ensures over { result ≡ Some Ending.TermOver
         → ((before : _) × (event : AnEvent) × (over : ATermOver)
@@ -97,8 +97,8 @@ fn serve_once<S: Serving, D: Desk>(station: &mut S, desk: &mut D) -> Option<Endi
 /// Serves the link if it is live, and otherwise asks for a connection. Returns `Some` if the work has ended.
 fn do_step<S: Serving, D: Desk>(station: &mut S, desk: &mut D) -> Option<Ending>
     ensures actor { D.actor desk.new ≡ D.actor desk.old }
-    ensures goes { (m : _) → IsAtWork m (work_state (S.state station.old) (D.calls desk.old))
-        → IsNextStep m (work_state (S.state station.new) (D.calls desk.new)) result }
+    ensures goes { (m : _) → IsAtWork m (moment (S.state station.old) (D.calls desk.old) (D.questions desk.old))
+        → IsNextStep m (moment (S.state station.new) (D.calls desk.new) (D.questions desk.new)) result }
     ensures shut { result ≡ Some Ending.GateShut → S.shut station.new }
     ensures over { result ≡ Some Ending.TermOver
         → ((before : _) × (event : AnEvent) × (over : ATermOver)
@@ -115,8 +115,8 @@ fn do_step<S: Serving, D: Desk>(station: &mut S, desk: &mut D) -> Option<Ending>
 /// Serves a station's connections, one after another, until the work has ended.
 pub fn work_station<R: Wait, S: Serving, D: Desk>(rt: &R, station: &mut S, desk: &mut D) -> Ending
     ensures actor { D.actor desk.new ≡ D.actor desk.old }
-    ensures works { WorksUntil (work_state (S.state station.old) (D.calls desk.old))
-        (work_state (S.state station.new) (D.calls desk.new)) result }
+    ensures works { WorksUntil (moment (S.state station.old) (D.calls desk.old) (D.questions desk.old))
+        (moment (S.state station.new) (D.calls desk.new) (D.questions desk.new)) result }
     ensures shut { result ≡ Ending.GateShut → S.shut station.new }
     ensures over { result ≡ Ending.TermOver
         → ((before : _) × (event : AnEvent) × (over : ATermOver)
@@ -141,10 +141,11 @@ pub fn work_carrier<R: Wait, P: Port, G: Gate, D: Desk>(
     desk: &mut D,
 ) -> Ending
     ensures actor { D.actor desk.new ≡ D.actor desk.old }
-    ensures works { WorksUntil (work_state (station_state station.old.link
-        (P.reported station.old.port) (G.passed station.old.gate)) (D.calls desk.old))
-        (work_state (station_state station.new.link (P.reported station.new.port)
-        (G.passed station.new.gate)) (D.calls desk.new)) result }
+    ensures works { WorksUntil (moment (station_state station.old.link
+        (P.reported station.old.port) (G.passed station.old.gate)) (D.calls desk.old)
+        (D.questions desk.old)) (moment (station_state station.new.link
+        (P.reported station.new.port) (G.passed station.new.gate)) (D.calls desk.new)
+        (D.questions desk.new)) result }
     ensures shut { result ≡ Ending.GateShut → (before : _) × G.shuts before station.new.gate }
     ensures over { result ≡ Ending.TermOver
         → ((before : _) × (event : AnEvent) × (over : ATermOver)
@@ -163,10 +164,10 @@ pub fn work_console<R: Wait, P: Port, D: Desk>(
     desk: &mut D,
 ) -> Ending
     ensures actor { D.actor desk.new ≡ D.actor desk.old }
-    ensures works { WorksUntil (work_state
-        (station_state station.old.link (P.reported station.old.port) None) (D.calls desk.old))
-        (work_state (station_state station.new.link (P.reported station.new.port) None)
-        (D.calls desk.new)) result }
+    ensures works { WorksUntil (moment (station_state station.old.link
+        (P.reported station.old.port) None) (D.calls desk.old) (D.questions desk.old))
+        (moment (station_state station.new.link (P.reported station.new.port) None)
+        (D.calls desk.new) (D.questions desk.new)) result }
     ensures open { result ≡ Ending.GateShut → ⊥ }
     ensures over { result ≡ Ending.TermOver
         → ((before : _) × (event : AnEvent) × (over : ATermOver)

@@ -103,6 +103,7 @@ impl ConsoleLink {
     /// reads nor writes.
     pub fn serve<W: Wire, D: Desk>(&mut self, port: &mut W, desk: &mut D) -> Ended
         ensures actor { D.actor desk.new ≡ D.actor desk.old }
+        ensures questions { D.questions desk.new ≡ D.questions desk.old }
         ensures serves { Serves self.old self.new
             (sides (W.reported port.old) (D.calls desk.old) None)
             (sides (W.reported port.new) (D.calls desk.new) None) result }
@@ -129,6 +130,7 @@ impl ConsoleLink {
     /// is not live does not change.
     pub fn cut<D: Desk>(&mut self, desk: &mut D) -> Result<(), TermOver>
         ensures actor { D.actor desk.new ≡ D.actor desk.old }
+        ensures questions { D.questions desk.new ≡ D.questions desk.old }
         ensures cuts { is_live self.old ≡ true
             → Cuts self.old self.new (D.calls desk.old) (D.calls desk.new) }
         ensures done { is_live self.old ≡ true

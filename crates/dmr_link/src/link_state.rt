@@ -157,6 +157,7 @@ impl LinkState {
     ) -> Result<(), Ended>
         requires { first_pending self.old.pending ≡ Some notice.now }
         ensures actor { D.actor desk.new ≡ D.actor desk.old }
+        ensures questions { D.questions desk.new ≡ D.questions desk.old }
         ensures moves { Moves self.old self.new
             (sides (W.reported port.old) (D.calls desk.old) (G.passed gate.old))
             (sides (W.reported port.new) (D.calls desk.new) (G.passed gate.new)) 0 0 0 Outside
@@ -195,6 +196,7 @@ impl LinkState {
         gate: &mut G,
     ) -> Result<(), Ended>
         ensures actor { D.actor desk.new ≡ D.actor desk.old }
+        ensures questions { D.questions desk.new ≡ D.questions desk.old }
         ensures moves { Moves self.old self.new
             (sides (W.reported port.old) (D.calls desk.old) (G.passed gate.old))
             (sides (W.reported port.new) (D.calls desk.new) (G.passed gate.new)) 0 0 0 Outside
@@ -229,6 +231,7 @@ impl LinkState {
         gate: &mut G,
     ) -> Result<(), Ended>
         ensures actor { D.actor desk.new ≡ D.actor desk.old }
+        ensures questions { D.questions desk.new ≡ D.questions desk.old }
         ensures moves { Moves self.old self.new
             (sides (W.reported port.old) (D.calls desk.old) (G.passed gate.old))
             (sides (W.reported port.new) (D.calls desk.new) (G.passed gate.new)) 0 0 0 Outside
@@ -267,6 +270,7 @@ impl LinkState {
         gate: &mut G,
     ) -> Result<(), Ended>
         ensures actor { D.actor desk.new ≡ D.actor desk.old }
+        ensures questions { D.questions desk.new ≡ D.questions desk.old }
         ensures moves { Moves self.old self.new
             (sides (W.reported port.old) (D.calls desk.old) (G.passed gate.old))
             (sides (W.reported port.new) (D.calls desk.new) (G.passed gate.new)) 0 0 0 Outside
@@ -331,6 +335,7 @@ impl LinkState {
         requires none { self.old.unread ≡ [] }
         requires few { row ≤ most_interruptions }
         ensures actor { D.actor desk.new ≡ D.actor desk.old }
+        ensures questions { D.questions desk.new ≡ D.questions desk.old }
         ensures moves { Moves self.old self.new
             (sides (W.reported port.old) (D.calls desk.old) (G.passed gate.old))
             (sides (W.reported port.new) (D.calls desk.new) (G.passed gate.new)) row
@@ -357,6 +362,7 @@ impl LinkState {
         gate: &mut G,
     ) -> Ended
         ensures actor { D.actor desk.new ≡ D.actor desk.old }
+        ensures questions { D.questions desk.new ≡ D.questions desk.old }
         ensures works { Listens self.old self.new
             (sides (W.reported port.old) (D.calls desk.old) (G.passed gate.old))
             (sides (W.reported port.new) (D.calls desk.new) (G.passed gate.new)) result }
@@ -405,6 +411,7 @@ impl LinkState {
     ) -> Result<(), TermOver>
         requires { self.old.is_cut ≡ true }
         ensures actor { D.actor desk.new ≡ D.actor desk.old }
+        ensures questions { D.questions desk.new ≡ D.questions desk.old }
         ensures moves { (reported : Option (List PortAnswer)) (passed : Option (List Passage))
             → Moves self.old self.new (sides reported (D.calls desk.old) passed)
             (sides reported (D.calls desk.new) passed) 0 0 0 Disordered Disordered }

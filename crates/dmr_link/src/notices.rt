@@ -31,6 +31,7 @@ impl SiteNotice {
     /// Hands in the event of the notice at a desk, as [`Desk::deposit_to`] does.
     pub fn hand_in<D: Desk>(&self, desk: &mut D, acts: &mut Acts) -> Result<(), TermOver>
         ensures actor { D.actor desk.new ≡ D.actor desk.old }
+        ensures questions { D.questions desk.new ≡ D.questions desk.old }
         ensures ok { IfOk result (λ _. D.calls desk.new
             ≡ D.calls desk.old ++ record { event = event_of_notice self.now; acts = acts.new } ∷ []) }
         ensures err { IfErr result (λ over. (D.calls desk.new ≡ D.calls desk.old)

@@ -5,7 +5,6 @@ use Rattle.std.proofs.lemmas.Option.{same_Some}
 use Rattle.dmr_core.specs.declared.entry.Entry.{Entry}
 use Rattle.dmr_desk.specs.declared.fault.TermFault.{TermFault}
 use Rattle.dmr_desk.specs.declared.fault.TermFault.TheVariants as term_fault
-use Rattle.dmr_desk.specs.declared.fault.TermsFault.{TermsFault}
 use Rattle.dmr_desk.specs.Refusing.{IsTermFault, left_at}
 use Rattle.dmr_desk.specs.Term.{Start, End, IsTerm}
 use Rattle.dmr_desk.specs.Terms.{Fits, HaveRun, Sees, journals_of, next_start, start_after}
@@ -89,10 +88,10 @@ way_ends kept refuses start next n seen seen_then begun now first waiting store 
   },
 )
 
-pub way_stops : {K : Type 0} (kept : K → Option Kept) (refuses : K → TimedRecords → KeepFault → Type 0) (start next : Start) (terms : ℕ) (fault : TermsFault) (seen seen_then : Option (List (List Entry))) (begun now : Option Carry) (first : Keeping K) (waiting : List TimedRecords) (store : Keeping K) (waiting_now : List TimedRecords) (last : Keeping K) →
-    IsUnderWay kept start fault.done next seen seen_then begun now first waiting store waiting_now → fault.done < terms → IsTermFault next fault.fault → GoOn (store.outbox ++ waiting_now) (kept store.keeper) last.outbox (kept last.keeper) →
-    ((before : Option Kept) (all : List TimedRecords) → ArePassedOn before all (store.outbox ++ waiting_now) (kept store.keeper) → IsAtEnd kept refuses before all last.outbox last.fault) → HaveStoppedServing kept refuses start terms fault seen seen_then begun first waiting last
-way_stops kept refuses start next terms fault seen seen_then begun now first waiting store waiting_now last way fewer why goes end = (
+pub way_stops : {K : Type 0} (kept : K → Option Kept) (refuses : K → TimedRecords → KeepFault → Type 0) (start next : Start) (terms done : ℕ) (fault : TermFault) (seen seen_then : Option (List (List Entry))) (begun now : Option Carry) (first : Keeping K) (waiting : List TimedRecords) (store : Keeping K) (waiting_now : List TimedRecords) (last : Keeping K) →
+    IsUnderWay kept start done next seen seen_then begun now first waiting store waiting_now → done < terms → IsTermFault next fault → GoOn (store.outbox ++ waiting_now) (kept store.keeper) last.outbox (kept last.keeper) →
+    ((before : Option Kept) (all : List TimedRecords) → ArePassedOn before all (store.outbox ++ waiting_now) (kept store.keeper) → IsAtEnd kept refuses before all last.outbox last.fault) → HaveStoppedServing kept refuses start terms done fault seen seen_then begun first waiting last
+way_stops kept refuses start next terms done fault seen seen_then begun now first waiting store waiting_now last way fewer why goes end = (
   record { next = next; run = way.0; fewer = fewer; why = why },
   record {
     stored = stored_on start.site.plan begun (journals_of way.0.ends) (kept first.keeper) (first.outbox ++ waiting) (store.outbox ++ waiting_now) last.outbox (kept store.keeper) (kept last.keeper) way.2 goes;

@@ -5,10 +5,10 @@ ghost use Rattle.std.specs.Prelude.{◌≡◌, ◌↔◌, IfErr, IfOk, IsSome, I
 ghost use Rattle.dmr_desk.specs.declared.fault.OpenFault.TheVariants.{OutOfMemory};
 ghost use Rattle.dmr_desk.specs.declared.fault.TermFault.TheVariants.{Open};
 ghost use Rattle.dmr_desk.specs.Refusing.{IsTermFault};
+ghost use Rattle.dmr_desk.specs.Service.{end_at, start_at};
 ghost use Rattle.dmr_desk.specs.Term.{IsTerm};
 ghost use Rattle.dmr_desk.specs.Terms.{Fits};
-ghost use Rattle.dmr_trunk.specs.Served.{HaveServed, HaveStoppedServing};
-ghost use Rattle.dmr_trunk.specs.Serving.{end_at, start_at, terms_asked};
+ghost use Rattle.dmr_trunk.specs.Served.{HaveServed, HaveStoppedServing, terms_asked};
 
 use crate::holding::{Keeping, Writer};
 use crate::keeping::{Waiting, go_on, hand_over_rest};
@@ -71,7 +71,8 @@ fn service_to_retry<P: Drop, G: Drop, T: Drop, C: Drop>(
     ensures fault { IfErr result (λ fault. fault ≡ refused.fault) }
     ensures memory { IfErr result (λ fault. fault ≡ Open OutOfMemory → done ≡ 0) }
 {
-    let Refused { fault, left } = refused;
+    let Refused { fault, left, ended } = refused;
+    drop(ended);
     match left {
         Some(service) => {
             if done > 0 && is_out_of_memory(fault) {
@@ -182,7 +183,7 @@ where
         books.entry.keeping books.entry.waiting.outbox result.keeping) }
     ensures fault { IfErr result.result (λ stopped. HaveStoppedServing K.kept K.refuses
         (start_at P.reported G.passed T.paced C.reported service.site.plan.term_entries service)
-        (terms_asked terms) (record { done = stopped.done; fault = stopped.fault })
+        (terms_asked terms) stopped.done stopped.fault
         (O.seen observer) (O.seen result.observer)
         (option_map (λ m. m.recorder.carried) books.entry.maker)
         books.entry.keeping books.entry.waiting.outbox result.keeping) }
@@ -249,7 +250,7 @@ where
         books.entry.keeping books.entry.waiting.outbox result.keeping) }
     ensures fault { IfErr result.result (λ stopped. HaveStoppedServing K.kept K.refuses
         (start_at P.reported G.passed T.paced C.reported service.site.plan.term_entries service)
-        (terms_asked terms) (record { done = stopped.done; fault = stopped.fault })
+        (terms_asked terms) stopped.done stopped.fault
         (O.seen observer) (O.seen result.observer)
         (option_map (λ m. m.recorder.carried) books.entry.maker)
         books.entry.keeping books.entry.waiting.outbox result.keeping) }
@@ -269,7 +270,7 @@ where
                 books.entry.keeping books.entry.waiting.outbox result.keeping) }
             ensures fault { IfErr result.result (λ stopped. HaveStoppedServing K.kept K.refuses
                 (start_at P.reported G.passed T.paced C.reported service.site.plan.term_entries service)
-                (terms_asked terms) (record { done = stopped.done; fault = stopped.fault })
+                (terms_asked terms) stopped.done stopped.fault
                 (O.seen observer) (O.seen result.observer)
                 (option_map (λ m. m.recorder.carried) books.entry.maker)
                 books.entry.keeping books.entry.waiting.outbox result.keeping) }
@@ -319,7 +320,7 @@ where
         books.entry.keeping books.entry.waiting.outbox result.keeping) }
     ensures fault { IfErr result.result (λ stopped. HaveStoppedServing K.kept K.refuses
         (start_at P.reported G.passed T.paced C.reported service.site.plan.term_entries service)
-        (terms_asked terms) (record { done = stopped.done; fault = stopped.fault })
+        (terms_asked terms) stopped.done stopped.fault
         (O.seen observer) (O.seen result.observer)
         (option_map (λ m. m.recorder.carried) books.entry.maker)
         books.entry.keeping books.entry.waiting.outbox result.keeping) }

@@ -2,6 +2,7 @@
 //! each wait.
 
 ghost use Rattle.std.specs.Prelude.{[], ⊤};
+ghost use Rattle.dmr_link.specs.Questions.{Questioned};
 
 use crate::kept::{keep, port_of, push};
 use dmr_core::{Acts, Event};
@@ -14,16 +15,20 @@ use std::alloc::{AllocError, Global};
 use std::sync::Wait;
 use std::test::Fail;
 
-/// A desk that takes no event. It answers that the term is over once it was asked `left` times.
+/// A desk that takes no event. It answers that the term is over once it was asked `left` times. `asked` is how often it
+/// was asked, while that number has room.
 #[derive(Drop)]
 struct AskedDesk {
     left: u32,
+    asked: Option<u32>,
 }
 
 impl Desk for AskedDesk {
     ghost actor = { λ d. 0 };
 
     ghost calls = { λ d. [] };
+
+    ghost questions = { λ d. d.asked };
 
     ghost refuses = { λ d event over f. ⊤ };
 
@@ -34,6 +39,7 @@ impl Desk for AskedDesk {
     }
 
     fn over(&mut self) -> bool {
+        self.asked = count_one(self.asked);
         match self.left.checked_sub(1) {
             Some(left) => {
                 self.left = left;
@@ -42,6 +48,13 @@ impl Desk for AskedDesk {
             None => true,
         }
     }
+}
+
+/// Counts one more. `None` if there is no room for the number, or it was not counted before.
+fn count_one(count: Option<u32>) -> Option<u32>
+    ensures { Questioned count 1 result }
+{
+    count?.checked_add(1)
 }
 
 /// Adds the steps of a port to which somebody connects at the second request. Twice there is nothing to read, and a
@@ -71,7 +84,10 @@ fn answers_of(port: &MemoryPort) -> Option<usize> {
 /// Runs a carrier's worker at a desk that is over once it was asked `asked` times. Returns why it ended, and the number
 /// of answers of its port.
 fn work_of_carrier(rt: &impl Wait, port: MemoryPort, asked: u32) -> (Ending, Option<usize>) {
-    let mut desk = AskedDesk { left: asked };
+    let mut desk = AskedDesk {
+        left: asked,
+        asked: Some(0),
+    };
     let mut carrier = Station {
         link: Link::new(CarrierNo::new(0), Lpcn::new(1), Version::V1),
         port,
@@ -85,7 +101,10 @@ fn work_of_carrier(rt: &impl Wait, port: MemoryPort, asked: u32) -> (Ending, Opt
 
 /// Runs the console's worker in the same way.
 fn work_of_console(rt: &impl Wait, port: MemoryPort, asked: u32) -> (Ending, Option<usize>) {
-    let mut desk = AskedDesk { left: asked };
+    let mut desk = AskedDesk {
+        left: asked,
+        asked: Some(0),
+    };
     let mut console = ConsoleStation {
         link: ConsoleLink::new(),
         port,

@@ -75,7 +75,8 @@ pub ticks_of : (start : Start) (end : End) (before after : Paced) → IsTerm sta
     × ((after.ticks ≡ before.ticks + length (view_of (length start.stations) end.journal)) ⊎ (after.ticks ≡ before.ticks + (length (view_of (length start.stations) end.journal) + 1)))
 ticks_of start end before after term begun ended =
     let run = term.run in
-    let all = run.all_ended in
+    let all = run.ended.all_ended in
+    let many = run.ended.actors in
     let ending = get_within end.ends (length start.stations) (omega arith) in
     let P : Option Paced → Option Paced → Type 0 = λ x y. Ticks x [] y (view_of (length start.stations) end.journal) ending.0 in
-    given_by before after (view_of (length start.stations) end.journal) ending.0 (subst (λ x. P x (Some after)) begun (subst (P start.pacer) ended (run.ticker ending.0 ending.1)))
+    given_by before after (view_of (length start.stations) end.journal) ending.0 (subst (λ x. P x (Some after)) begun (subst (P start.pacer) ended (run.ended.ticker ending.0 (view_of (length start.stations) end.journal) ending.1 (run.views (length start.stations) (omega arith)))))

@@ -106,6 +106,7 @@ worked_0 = (
     orderly = orderly_0;
   },
   (tt, over_0),
+  tt,
 )
 
 -- ---- carrier 1
@@ -225,6 +226,7 @@ worked_1 = (
     orderly = orderly_1;
   },
   (tt, over_1),
+  tt,
 )
 
 -- ---- the operators' link
@@ -243,4 +245,5 @@ worked_console = (
     orderly = orderly_console;
   },
   (tt, new_over Operator),
+  tt,
 )

@@ -1,8 +1,8 @@
 -- The worked term as a whole.
-use Rattle.std.proofs.Common.{◌≡◌, ℕ, zero, suc, ◌<◌, List, [], ◌∷◌, Some, None, slice_get, length, refl, reverse, subst, arith}
+use Rattle.std.proofs.Common.{◌≡◌, ℕ, zero, suc, ◌<◌, List, [], ◌∷◌, Some, None, slice_get, length, refl, reverse, sym, ◌∙◌, subst, arith}
 use Rattle.std.specs.List.{All}
 use Rattle.std.proofs.lemmas.List.Elements.{All-nil, All-cons}
-use Rattle.std.proofs.lemmas.Option.{same_Some}
+use Rattle.std.proofs.lemmas.Option.{same_Some, slice_get_within}
 use Rattle.dmr_core.specs.declared.entry.Entry.{Entry}
 use Rattle.dmr_core.specs.declared.event.Event.TheVariants.{Lost, Poll, Tick, Up}
 use Rattle.dmr_core.specs.Facts.{no_facts}
@@ -11,7 +11,7 @@ use Rattle.dmr_core.specs.Rules.{acts_for_due_ask, acts_for_due_call, acts_for_f
 use Rattle.dmr_link.specs.declared.desk.Deposit.{Deposit}
 use Rattle.dmr_desk.specs.declared.ending.Ending.{Ending}
 use Rattle.dmr_desk.specs.declared.ending.Ending.TheVariants as ending
-use Rattle.dmr_desk.specs.Term.{HasRun, HasTicked, HasWorked, IsTerm}
+use Rattle.dmr_desk.specs.Term.{HasEnded, HasRun, HasTicked, HasWorked, IsTerm}
 use Rattle.dmr_desk.specs.Views.{view_of}
 use Rattle.dmr_desk.specs.Work.{StationState}
 use Rattle.test_witness.specs.Worked.{deposit, end, entry, journal, no_acts, plan, start}
@@ -84,8 +84,12 @@ tick_answered = refl
 legal : IsLegal plan no_facts (reverse journal)
 legal = (refl, (refl, (tick_answered, (poll_answered, (refl, (refl, tt))))))
 
-ran : HasRun start end
-ran = record {
+-- the view that is there is the journal's list
+seen_as : (k : ℕ) (view : List Deposit) → slice_get end.views k ≡ Some view → view_of k journal ≡ view
+seen_as k view seen = same_Some (view_of k journal) view (sym (views k (slice_get_within end.views k view seen)) ∙ seen)
+
+ended : HasEnded start end
+ended = record {
   legal = legal;
   safe = record {
     free = (tt, (tt, (tt, (tt, (tt, (tt, tt))))));
@@ -96,14 +100,17 @@ ran = record {
   within = omega arith;
   site = refl;
   actors = refl;
-  views = views;
+  counted = refl;
   nobody = nobody;
   handed_back = refl;
   all_ended = refl;
-  carriers = carriers;
-  ticker = ticker;
-  console = console;
+  carriers = λ k s t e view here there why seen. subst (λ v. HasWorked s t v e) (seen_as k view seen) (carriers k s t e here there why);
+  ticker = λ e view why seen. subst (λ v. HasTicked start.pacer end.pacer v e) (seen_as 2 view seen) (ticker e why);
+  console = λ e view why seen. subst (λ v. HasWorked start.console end.console v e) (seen_as 3 view seen) (console e why);
 }
+
+ran : HasRun start end
+ran = record { ended = ended; views = views }
 
 pub a_term : IsTerm start end
 a_term = record { run = ran; over = λ k is. absurd (all_finished k is) }

@@ -1,7 +1,7 @@
 //! A desk that keeps a list of the events that it took.
 
 ghost use Rattle.std.specs.Prelude.{◌≡◌, ◌<◌, [], ◌∷◌, ◌++◌, length, vec_len, vec_capacity, IfOk};
-ghost use Rattle.std.specs.Prelude.{IfErr, OnOk};
+ghost use Rattle.std.specs.Prelude.{IfErr, None, OnOk};
 
 use dmr_core::{Acts, Event, Site};
 use dmr_link::{Deposit, Desk, TermOver};
@@ -89,6 +89,8 @@ impl Desk for ListDesk {
     ghost actor = { λ d. d.actor };
 
     ghost calls = { λ d. d.calls };
+
+    ghost questions = { λ d. None };
 
     ghost refuses = { λ d event over f. (f ≡ d) × (length d.calls ≡ d.limit)
         × (over.entries ≡ d.limit) };

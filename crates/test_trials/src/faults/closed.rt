@@ -1,6 +1,6 @@
 //! A desk that must not receive anything.
 
-ghost use Rattle.std.specs.Prelude.{[], ⊤};
+ghost use Rattle.std.specs.Prelude.{[], None, ⊤};
 
 use dmr_core::{Acts, Event};
 use dmr_link::{Desk, TermOver};
@@ -16,6 +16,8 @@ impl Desk for ClosedDesk {
     ghost actor = { λ d. 0 };
 
     ghost calls = { λ d. [] };
+
+    ghost questions = { λ d. None };
 
     ghost refuses = { λ d event over f. ⊤ };
 

@@ -6,7 +6,8 @@ use crate::kept::{both, keep, port_of, push, push_feed};
 use crate::site::quiet_site;
 use dmr_core::Site;
 use dmr_desk::{
-    ConsoleStation, Pace, Report, Service, SpareLists, Station, Term, TermFault, run_term, try_term,
+    ConsoleStation, Pace, Refused, Report, Service, SpareLists, Station, Term, TermFault, run_term,
+    try_term,
 };
 use dmr_frames::Version;
 use dmr_link::{ConsoleLink, Link};
@@ -316,7 +317,9 @@ impl<'a> TermStage<'a> {
         limit: usize,
     ) -> Option<(TermFault, TermStage<'a>)> {
         let refused = try_term(rt, alloc, limit, service_of(self)).err()?;
-        let (fault, service) = Some(refused.fault).zip(refused.left)?;
+        let Refused { fault, left, ended } = refused;
+        drop(ended);
+        let (fault, service) = Some(fault).zip(left)?;
         Some((fault, stage_of_service(service)))
     }
 

@@ -1,7 +1,7 @@
 use Rattle.std.proofs.Common.{refl, sym, ◌∙◌, subst}
 use Rattle.dmr_desk.specs.Term.{IsTerm}
 use Rattle.dmr_desk.specs.Terms.{Fits}
-use Rattle.dmr_trunk.specs.Serving.{end_at, start_at}
+use Rattle.dmr_desk.specs.Service.{end_at, start_at}
 use Rattle.dmr_trunk.proofs.ServingLemmas.{fault_from, left_is_given}
 use Rattle.dmr_trunk.proofs.row.run_next.Goals as goal
 

@@ -3,8 +3,8 @@ use Rattle.dmr_core.specs.declared.entry.Entry.{Entry}
 use Rattle.dmr_plan.specs.declared.settings.Settings.{Settings}
 use Rattle.dmr_desk.specs.Term.{start_of_term}
 use Rattle.dmr_keeper.specs.declared.time.TimedRecords.{TimedRecords}
-use Rattle.dmr_trunk.specs.Served.{HaveServed, HaveStoppedServing}
-use Rattle.dmr_trunk.specs.Serving.{console_of, end_at, start_at, states_of, terms_asked}
+use Rattle.dmr_trunk.specs.Served.{HaveServed, HaveStoppedServing, terms_asked}
+use Rattle.dmr_desk.specs.Service.{console_of, end_at, start_at, states_of}
 use Rattle.dmr_trunk.specs.Stored.{GoOn, HasMadeIfWanted, held}
 use Rattle.dmr_trunk.proofs.ServingLemmas.{way_begins, way_ends, way_on, way_stops}
 use Rattle.dmr_trunk.proofs.row.serve_in.Goals as goal
@@ -39,10 +39,10 @@ returns-in-Err-clause-fault g c =
     let kept = g.K.Keeper.kept in
     let begun = option_map (λ m. m.recorder.carried) c.args.books.maker in
     let same : c.term_entries-limit.result ≡ c.args.service.site.plan.term_entries = c.term_entries-limit.ensures ∙ ap (λ (plan : Settings). plan.term_entries) c.plan.ensures in
-    let P : ℕ → Type 0 = λ limit. HaveStoppedServing kept g.K.Keeper.refuses (start_at g.P.Wire.reported g.G.Gate.passed g.T.Pacer.paced g.C.Wire.reported limit c.args.service) (terms_asked c.args.terms) (record { done = c.loop-done.done; fault = c.in-Err.fault }) (g.O.Observer.seen c.args.observer) (g.O.Observer.seen c.loop-done.observer) begun c.args.books.keeping c.args.books.waiting.outbox c.hand_over_rest.result in
+    let P : ℕ → Type 0 = λ limit. HaveStoppedServing kept g.K.Keeper.refuses (start_at g.P.Wire.reported g.G.Gate.passed g.T.Pacer.paced g.C.Wire.reported limit c.args.service) (terms_asked c.args.terms) c.loop-done.done c.in-Err.fault (g.O.Observer.seen c.args.observer) (g.O.Observer.seen c.loop-done.observer) begun c.args.books.keeping c.args.books.waiting.outbox c.hand_over_rest.result in
     let counted = c.terms_asked-done-end.ensures in
     subst P same (way_stops kept g.K.Keeper.refuses (start_at g.P.Wire.reported g.G.Gate.passed g.T.Pacer.paced g.C.Wire.reported c.term_entries-limit.result c.args.service) (start_at g.P.Wire.reported g.G.Gate.passed g.T.Pacer.paced g.C.Wire.reported c.term_entries-limit.result c.loop-done.service)
-    (terms_asked c.args.terms) (record { done = c.loop-done.done; fault = c.in-Err.fault }) (g.O.Observer.seen c.args.observer) (g.O.Observer.seen c.loop-done.observer) begun (option_map (λ m. m.recorder.carried) c.loop-done.maker) c.args.books.keeping c.args.books.waiting.outbox (held c.loop-done.writer) c.loop-done.waiting.outbox c.hand_over_rest.result
+    (terms_asked c.args.terms) c.loop-done.done c.in-Err.fault (g.O.Observer.seen c.args.observer) (g.O.Observer.seen c.loop-done.observer) begun (option_map (λ m. m.recorder.carried) c.loop-done.maker) c.args.books.keeping c.args.books.waiting.outbox (held c.loop-done.writer) c.loop-done.waiting.outbox c.hand_over_rest.result
     c.loop-done.invariant (omega arith) c.in-Err.ensures.fault c.hand_over_rest.ensures.goes_on c.hand_over_rest.ensures.end)
 
 pub returns-clause-run : goal.returns-clause-run

@@ -1,5 +1,5 @@
 use Rattle.std.specs.Prelude.{option_map}
-use Rattle.dmr_trunk.specs.Serving.{start_at}
+use Rattle.dmr_desk.specs.Service.{start_at}
 use Rattle.dmr_trunk.specs.Stored.{held}
 use Rattle.dmr_trunk.proofs.ServingLemmas.{IsUnderWay}
 use Rattle.dmr_trunk.proofs.row.serve_in.Given as goal

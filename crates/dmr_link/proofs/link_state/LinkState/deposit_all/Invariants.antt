@@ -12,6 +12,7 @@ invariant-loop-notice g l = record {
       (sides (g.W.Wire.reported l.port) (g.D.Desk.calls l.desk) (g.G.Gate.passed l.gate)) 0 0 0 Outside Outside;
   unread : l.self.unread ≡ l.initial.self.unread;
   actor : g.D.Desk.actor l.desk ≡ g.D.Desk.actor l.initial.desk;
+  questions : g.D.Desk.questions l.desk ≡ g.D.Desk.questions l.initial.desk;
 }
 
 abbrev pub decreases-loop-notice : goal.decreases-loop-notice

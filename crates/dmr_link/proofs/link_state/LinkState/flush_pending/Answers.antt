@@ -9,7 +9,7 @@ use Rattle.dmr_link.proofs.LinkSteps.{flushes}
 use Rattle.dmr_link.proofs.link_state.LinkState.flush_pending.Goals as goal
 
 pub loop-notice-init : goal.loop-notice-init
-loop-notice-init g c = record { moves = λ reported passed. moves_none _ _ _ _; cut = c.requires; connection = refl; closing = refl; actor = refl }
+loop-notice-init g c = record { moves = λ reported passed. moves_none _ _ _ _; cut = c.requires; connection = refl; closing = refl; actor = refl; questions = refl }
 
 pub loop-notice-preserved : goal.loop-notice-preserved
 loop-notice-preserved g c = record {
@@ -24,6 +24,7 @@ loop-notice-preserved g c = record {
   connection = c.loop-notice.invariant.connection;
   closing = c.loop-notice.invariant.closing;
   actor = c.hand_in.ensures.actor ∙ c.loop-notice.invariant.actor;
+  questions = c.hand_in.ensures.questions ∙ c.loop-notice.invariant.questions;
 }
 
 pub returns-in_err-hand_in-clause-moves : goal.returns-in_err-hand_in-clause-moves

@@ -14,6 +14,7 @@ invariant-loop-notice g l = record {
   connection : l.self.connection ≡ l.initial.self.connection;
   closing : l.self.closing ≡ l.initial.self.closing;
   actor : g.D.Desk.actor l.desk ≡ g.D.Desk.actor l.initial.desk;
+  questions : g.D.Desk.questions l.desk ≡ g.D.Desk.questions l.initial.desk;
 }
 
 abbrev pub decreases-loop-notice : goal.decreases-loop-notice

@@ -11,6 +11,7 @@ invariant-loop-self g l = record {
       (sides (g.W.Wire.reported l.port) (g.D.Desk.calls l.desk) (g.G.Gate.passed l.gate)) 0 0 0 Outside Outside;
   quiet : IsQuiet l.self;
   actor : g.D.Desk.actor l.desk ≡ g.D.Desk.actor l.initial.desk;
+  questions : g.D.Desk.questions l.desk ≡ g.D.Desk.questions l.initial.desk;
 }
 
 abbrev pub decreases-loop-self : goal.decreases-loop-self

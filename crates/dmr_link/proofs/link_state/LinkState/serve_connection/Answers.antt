@@ -4,7 +4,7 @@ use Rattle.dmr_link.proofs.LinkSteps.{ends_by}
 use Rattle.dmr_link.proofs.link_state.LinkState.serve_connection.Goals as goal
 
 pub loop-init : goal.loop-init
-loop-init g c = record { moves = moves_none _ _ _ _; quiet = c.in_default.ensures.stops; unread = c.in_default.ensures.all; few = omega arith; actor = refl }
+loop-init g c = record { moves = moves_none _ _ _ _; quiet = c.in_default.ensures.stops; unread = c.in_default.ensures.all; few = omega arith; actor = refl; questions = refl }
 
 pub returns-in-Err-read_and_process-clause-works : goal.returns-in-Err-read_and_process-clause-works
 returns-in-Err-read_and_process-clause-works g c = record {
@@ -22,6 +22,7 @@ loop-preserved g c = record {
   unread = c.in-Ok.ensures.stops.1;
   few = c.in-Ok.ensures.stops.2;
   actor = c.in-Ok.ensures.actor ∙ c.loop.invariant.actor;
+  questions = c.in-Ok.ensures.questions ∙ c.loop.invariant.questions;
 }
 
 pub returns-clause-works : goal.returns-clause-works

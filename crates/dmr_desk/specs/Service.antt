@@ -1,7 +1,8 @@
--- Serving: how many terms it runs, from which start, and to which end.
-use Rattle.std.specs.Prelude.{ℕ, zero, suc, List, Option, None, map}
+-- How a term begins from a service, and how it has ended.
+use Rattle.std.specs.Prelude.{◌≡◌, ℕ, List, Option, None, Some, map, slice_get}
 use Rattle.dmr_wire.specs.Answers.{Answer}
 use Rattle.dmr_link.specs.Passages.{Passage}
+use Rattle.dmr_desk.specs.declared.ending.Ending.TheVariants.{GateShut}
 use Rattle.dmr_desk.specs.declared.service.Service.{Service}
 use Rattle.dmr_desk.specs.declared.station.ConsoleStation.{ConsoleStation}
 use Rattle.dmr_desk.specs.declared.station.Station.{Station}
@@ -9,11 +10,6 @@ use Rattle.dmr_desk.specs.declared.term.Term.{Term}
 use Rattle.dmr_desk.specs.Pace.{Paced}
 use Rattle.dmr_desk.specs.Term.{Start, End, start_of_term, end_of_term}
 use Rattle.dmr_desk.specs.Work.{StationState, station_state}
-
--- how many terms `--terms` asks for. 0 asks for terms without end: for 2 ^ 64 - 1, which no run lives to see
-abbrev pub terms_asked : ℕ → ℕ
-terms_asked zero = 18446744073709551615
-terms_asked (suc n) = suc n
 
 -- the states of stations, by what their ports and gates report
 abbrev pub states_of : {P G : Type 0} → (P → Option (List Answer)) → (G → Option (List Passage))
@@ -39,3 +35,9 @@ abbrev pub end_at : {P G T C : Type 0} → (P → Option (List Answer)) → (G �
 end_at reported passed paced of_console term = end_of_term term.report term.ends.items
     (states_of reported passed term.stations.items) (paced term.pacer)
     (console_of of_console term.console)
+
+-- each carrier's worker that ended because its gate was shut has a gate that was
+abbrev pub AreShut : {P G T C : Type 0} → (G → G → Type 0)
+    → Term (Station P G) T (ConsoleStation C) → Type 0
+AreShut {G = G} shuts term = (k : ℕ) (s : _) → slice_get term.stations.items k ≡ Some s
+    → slice_get term.ends.items k ≡ Some GateShut → (before : G) × shuts before s.gate

@@ -140,7 +140,7 @@ refuse-memory: build/dmr_trunk build/test_program ## each allocation of two repl
 tools-check: build/dmr_trunk build/dmr_decode ## the tests of the tools, over the proved programs (a minute)
 	PYTHONPATH=python TEMZAAR_PROGRAMS=build python3 -m unittest discover -s python
 
-pictures: build/dmr_trunk ## draws the pictures of the example scripts in docs/pictures again
+pictures: build/dmr_trunk build/dmr_decode ## draws the pictures of the example scripts in docs/pictures again
 	for name in queued_call lost_carrier operator; do tools/timeline --site sites/two_carriers.toml --script examples/scripts/$$name.txt --program build/dmr_trunk --out docs/pictures/$$name.svg || exit; done
 
 trusted: ## lists the definitions that a reader has to believe, in docs/TRUSTED.md

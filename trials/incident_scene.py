@@ -20,9 +20,8 @@ from temzaar import code, pdus
 from temzaar.cli.siteview import picture_rows, plain_text
 from temzaar.console import ConsoleFault
 from temzaar.frames import POLL, TO_CARRIER, Cutter, FrameType, Link, active, hello
-from temzaar.grants import granted_parties, is_grant, is_late
 from temzaar.hubconsole import HubConsole
-from temzaar.pdus import Pdu
+from temzaar.pdus import Pdu, granted_parties, is_grant, is_late
 from temzaar.picture import Ages, take_picture
 from temzaar.ports import free_ports
 from temzaar.process import Controller, ends_with_parent
@@ -94,8 +93,8 @@ class Air:
         elif is_grant(pdu) and not is_late(pdu) and not self.are_silent:
             key, parties = (self.by_lpcn[pdu["lpcn"]], pdu["slot"]), granted_parties(pdu)
             if self.granted.get(key) != (parties.source, parties.target):
-                self.grants.append((*key, parties.source or 0, parties.target))
-            self.granted[key] = parties.source or 0, parties.target
+                self.grants.append((*key, parties.source, parties.target))
+            self.granted[key] = parties.source, parties.target
         elif pdu.name == "P_CLEAR":
             self.granted.pop((carrier, slot), None)
 

@@ -6,8 +6,7 @@ from collections.abc import Callable
 from restart_checks import Change, PlayedCall
 from temzaar import code, pdus
 from temzaar.frames import POLL, TO_CARRIER, Cutter, FrameType, Link, active, hello
-from temzaar.grants import granted_parties, is_grant, is_late
-from temzaar.pdus import Pdu
+from temzaar.pdus import Pdu, granted_parties, is_grant, is_late
 from temzaar.process import connect
 from temzaar.sitefile import Row, Site
 
@@ -135,7 +134,7 @@ class Player:
             self.acknowledge(pdu)
         elif is_grant(pdu) and not is_late(pdu):
             parties = granted_parties(pdu)
-            call = PlayedCall(parties.group, parties.source or 0, parties.target, self.by_lpcn[pdu["lpcn"]], pdu["slot"], now_ms())
+            call = PlayedCall(parties.is_group, parties.source, parties.target, self.by_lpcn[pdu["lpcn"]], pdu["slot"], now_ms())
             was = self.open.get((call.carrier, call.slot))
             # another radio that asks for a talkgroup in use is sent the grant of its call again
             if was is None or was.key != call.key:

@@ -4,9 +4,9 @@
 _dmr_options() {
     case $1 in
         dmr_trunk) echo --site --script --serve --terms --version --help ;;
-        dmr_decode) echo --site --help ;;
+        dmr_decode) echo --fields --site --help ;;
         dmr_siteview) echo --site --hub --console --name --names --once --every --version --help ;;
-        dmr_timeline) echo --site --script --printed --program --out --records --start --from --to --page --calls --names --version --help ;;
+        dmr_timeline) echo --site --script --printed --program --decoder --out --records --start --from --to --page --calls --names --version --help ;;
         dmr_callbook) echo --records --format --radio --group --carrier --cause --from --to --last --names --seconds --version --help ;;
         dmr_report) echo --records --from --to --limit --slots --site --names --out --format --seconds --version --help ;;
         dmr_archive) echo --records --folder --older-days --keep-days --seconds --version --help ;;
@@ -48,7 +48,7 @@ _dmr() {
         --script | --printed) _dmr_files txt "$word" ;;
         --folder) compopt -o filenames; mapfile -t COMPREPLY < <(compgen -d -- "$word") ;;
         --out | --socket | --hub) _dmr_files "" "$word" ;;
-        --program | --controller | --command) mapfile -t COMPREPLY < <(compgen -c -- "$word") ;;
+        --program | --decoder | --controller | --command) mapfile -t COMPREPLY < <(compgen -c -- "$word") ;;
         --link-version) mapfile -t COMPREPLY < <(compgen -W "1 2" -- "$word") ;;
         --format) mapfile -t COMPREPLY < <(compgen -W "table csv json" -- "$word") ;;
         --cause) mapfile -t COMPREPLY < <(compgen -W "hang_time maximum radio_left dropped ended_by_operator carrier_lost" -- "$word") ;;

@@ -2,12 +2,16 @@
 import json
 from enum import Enum
 
-from temzaar.calls import CallRecord
 from temzaar.clock import Clock, Window
+from temzaar.entries import Call
 from temzaar.names import CALL_FIELDS, NAME_COLUMNS, NO_NAMES, Kind, Names, called_kind, named
 from temzaar.printable import csv_text, text_table
 
 COLUMNS = ("begun", "ended", "begun_time", "ended_time", "carrier", "slot", "kind", "source", "target", "cause", "waited_ticks", "waited_seconds")
+
+# What the list calls the causes of records.
+CAUSES = {"": "still active", "hang_time": "hang time", "maximum": "maximum length", "radio_left": "radio left", "dropped": "radio dropped by the operator",
+          "ended_by_operator": "ended by the operator", "carrier_lost": "carrier lost"}
 
 
 class ListFormat(Enum):
@@ -17,41 +21,47 @@ class ListFormat(Enum):
     JSON = "json"
 
 
-def call_row(record: CallRecord, clock: Clock, names: Names | None) -> dict[str, str | int | float | None]:
+def kind_of(call: Call) -> str:
+    """The kind of a call."""
+    return "talkgroup" if call.parties.is_group else "individual"
+
+
+def call_row(call: Call, clock: Clock, names: Names | None) -> dict[str, str | int | float | None]:
     """The columns of a call. A value that is not known, or that the call does not have, is None."""
+    is_group, target, source = call.parties
     row = {
-        "begun": record.begun, "ended": record.ended, "begun_time": clock.full_time(record.begun) or None,
-        "ended_time": None if record.ended is None else clock.full_time(record.ended) or None,
-        "carrier": record.carrier, "slot": record.slot, "kind": record.kind, "source": record.source, "target": record.target, "cause": record.cause.value,
-        "waited_ticks": record.waited, "waited_seconds": None if record.waited is None else clock.seconds(record.waited),
+        "begun": call.began, "ended": call.ended, "begun_time": clock.full_time(call.began) or None,
+        "ended_time": None if call.ended is None else clock.full_time(call.ended) or None,
+        "carrier": call.carrier, "slot": call.slot, "kind": kind_of(call), "source": source, "target": target, "cause": CAUSES[call.cause],
+        "waited_ticks": call.waited, "waited_seconds": None if call.waited is None else clock.seconds(call.waited),
     }
-    return row if names is None else {**row, **names.of_call(called_kind(record.kind == "talkgroup"), record.source, record.target, record.carrier)}
+    return row if names is None else {**row, **names.of_call(called_kind(is_group), source, target, call.carrier)}
 
 
-def calls_in(records: list[CallRecord], window: Window) -> list[CallRecord]:
+def calls_in(calls: list[Call], window: Window) -> list[Call]:
     """The calls that were active at some tick of a window."""
-    return [it for it in records if it.begun < window.end and (it.ended is None or it.ended >= window.first)]
+    return [it for it in calls if it.began < window.end and (it.ended is None or it.ended >= window.first)]
 
 
-def text_cells(record: CallRecord, clock: Clock, names: Names) -> list[str]:
+def text_cells(call: Call, clock: Clock, names: Names) -> list[str]:
     """The cells of a call in the text table."""
     def at(tick: int | None) -> str:
         """A tick, with its clock time if it is known."""
         return "-" if tick is None else f"{tick} {clock.time_of_day(tick)}".rstrip()
 
-    waited = "-" if record.waited is None else f"{record.waited} ({clock.seconds(record.waited):.1f} s)"
-    source = "-" if record.source is None else names.label(Kind.RADIO, record.source, NAME_COLUMNS)
-    target = names.label(called_kind(record.kind == "talkgroup"), record.target, NAME_COLUMNS)
-    slot = named(f"{record.carrier}/{record.slot}", names.name_of(Kind.CARRIER, record.carrier), NAME_COLUMNS)
-    return [at(record.begun), at(record.ended), slot, record.kind, source, target, waited, record.cause.value]
+    waited = "-" if call.waited is None else f"{call.waited} ({clock.seconds(call.waited):.1f} s)"
+    source = names.label(Kind.RADIO, call.parties.source, NAME_COLUMNS)
+    target = names.label(called_kind(call.parties.is_group), call.parties.target, NAME_COLUMNS)
+    slot = named(f"{call.carrier}/{call.slot}", names.name_of(Kind.CARRIER, call.carrier), NAME_COLUMNS)
+    return [at(call.began), at(call.ended), slot, kind_of(call), source, target, waited, CAUSES[call.cause]]
 
 
-def write_list(records: list[CallRecord], clock: Clock, form: ListFormat, names: Names | None = None) -> str:
+def write_list(calls: list[Call], clock: Clock, form: ListFormat, names: Names | None = None) -> str:
     """The list of calls in a format, with their names if there are any."""
     if form is ListFormat.TEXT:
         head = ["begun", "ended", "slot", "kind", "source", "target", "waited", "cause of the end"]
-        return text_table([head, *(text_cells(it, clock, names or NO_NAMES) for it in records)], [False] * len(head))
-    rows = [call_row(it, clock, names) for it in records]
+        return text_table([head, *(text_cells(it, clock, names or NO_NAMES) for it in calls)], [False] * len(head))
+    rows = [call_row(it, clock, names) for it in calls]
     if form is ListFormat.JSON:
         return json.dumps(rows, indent=2) + "\n"
     return csv_text(rows, COLUMNS if names is None else (*COLUMNS, *CALL_FIELDS))

@@ -1,14 +1,14 @@
 """The picture of a session, as an SVG: slots as rows, time in ticks, calls as bars with their parties, and a legend."""
 from collections.abc import Iterator, Sequence
 from html import escape
-from typing import Any, NamedTuple, Protocol
+from typing import Any, NamedTuple
 
 from temzaar import pdus
-from temzaar.calls import Calls, SlotKey
 from temzaar.clock import Clock, Window
-from temzaar.grants import Call, granted_parties, is_grant, is_late
+from temzaar.entries import Call, SlotKey
 from temzaar.names import NAME_COLUMNS, NO_NAMES, Kind, Names, called_kind
-from temzaar.printable import columns_of, cut_text
+from temzaar.pdus import Pdu, granted_parties, is_grant, is_late
+from temzaar.printable import columns_of, cut_text, printable
 from temzaar.script import Event, Input
 from temzaar.timeaxis import TimeAxis
 
@@ -62,8 +62,9 @@ class Axis:
         room = WIDTH - LEFT - 20
         self.step = min(14.0, room * (0.7 if ticks else 1.0) / max(1, steps))
         self.scale = min(14.0, (room - self.step * steps) / max(1, ticks))
-        # the place of each input, and pairs of a tick and its place
+        # the place of each input, and the ticks before it; pairs of a tick and its place
         self.at: list[float] = []
+        self.before: list[int] = []
         self.marks: list[tuple[int, float]] = [(window.first, LEFT)]
         self._place(inputs)
 
@@ -76,6 +77,7 @@ class Axis:
         tick = 0
         for it in inputs:
             self.at.append(across)
+            self.before.append(tick)
             if it.kind != "tick":
                 across += self.step if self.window.has(tick) else 0
                 continue
@@ -85,6 +87,11 @@ class Axis:
                 across += self.scale * inside
                 self.marks.append((min(tick, self.window.end), across))
         self.end = across
+
+    def place(self, tick: int, index: int) -> float:
+        """The place of a tick that an input has, or after which it comes."""
+        before = self.before[index]
+        return self.at[index] + self.scale * self._ticks_inside(before, tick - before)
 
     def labels(self, apart: float) -> Iterator[tuple[int, float]]:
         """The ticks that get a number, and their places: not closer than `apart`."""
@@ -131,25 +138,13 @@ class Gap(NamedTuple):
     why: str
 
 
-class DrawnCalls(Protocol):
-    """The calls of a session: those that a replay shows, or those of records."""
-    # the grants of calls that had ended, by the index of their events
-    ended: set[int]
-
-    def bars(self) -> list[tuple[SlotKey, Call]]:
-        """The calls that have a bar, each with its slot, by their beginnings."""
-        ...
-
-
 class Session:
-    """What is drawn: inputs and events over a site, its calls, its clock, and how many ticks it has. Without `calls` they are those that the events, of a
-    replay, show. `has_ticks` is false if the ticks are not the site's, but milliseconds of records; then `gaps` are the times without records. `names` are
-    those that are next to numbers."""
+    """What is drawn: inputs and events over a site, its calls by their beginnings, its clock, and how many ticks it has. `has_ticks` is false if the ticks are not
+    the site's, but milliseconds of records; then `gaps` are the times without records. `names` are those that are next to numbers."""
 
-    def __init__(self, plan: dict[str, Any], inputs: list[Input], events: list[Event], clock: Clock, calls: DrawnCalls | None = None, has_ticks: bool = True,
+    def __init__(self, plan: dict[str, Any], inputs: list[Input], events: list[Event], clock: Clock, calls: list[Call], has_ticks: bool = True,
                  gaps: Sequence[Gap] = (), names: Names = NO_NAMES) -> None:
-        self.plan, self.inputs, self.events, self.clock = plan, inputs, events, clock
-        self.calls: DrawnCalls = calls or Calls(plan, events)
+        self.plan, self.inputs, self.events, self.clock, self.calls = plan, inputs, events, clock, calls
         self.ticks = sum(it.count for it in inputs)
         self.has_ticks, self.gaps, self.names = has_ticks, gaps, names
 
@@ -167,6 +162,7 @@ class Drawing:
             places = ((gap, axis.place(gap.first), axis.place(gap.end)) for gap in session.gaps)
             self.gaps = [(gap, begins, ends) for gap, begins, ends in places if ends > begins]
         self.rows: list[SlotKey] = [(row["number"], slot) for row in sorted(self.plan["carrier"], key=lambda it: it["number"]) for slot in (0, 1)]
+        self.by_lpcn = {row["lpcn"]: row["number"] for row in self.plan["carrier"] if session.has_ticks}
         used = {it.what for it in self.events}
         self.lanes = [what for what in LANES if what in used]
         # the lower edge of the rows, and of the picture
@@ -203,9 +199,9 @@ class Drawing:
         self.draw_outages()
         self.draw_gaps()
         self.draw_calls()
-        for index, event in enumerate(self.events):
+        for event in self.events:
             if self.window.has(event.tick):
-                self.draw_event(index, event)
+                self.draw_event(event)
         self.draw_legend()
         head = f'<svg xmlns="http://www.w3.org/2000/svg" width="{WIDTH}" height="{self.height}" viewBox="0 0 {WIDTH} {self.height}">'
         hatched = [HATCHED] if self.gaps else []
@@ -279,24 +275,22 @@ class Drawing:
     def draw_calls(self) -> None:
         """A bar for each call that is active in the window, in a colour for its parties."""
         kinds: dict[str, int] = {}
-        for slot, call in self.calls.bars():
-            first = self.events[call.begins]
-            last = None if call.ends is None else self.events[call.ends]
-            parties = str(call.parties)
+        for call in self.calls:
+            slot, parties = (call.carrier, call.slot), str(call.parties)
             colour = COLOURS[kinds.setdefault(parties, len(kinds)) % len(COLOURS)]
-            if first.tick >= self.window.end or last and last.tick < self.window.first:
+            if call.began >= self.window.end or call.ended is not None and call.ended < self.window.first:
                 continue
-            begins = self.axis.at[first.index]
-            across = max((self.axis.at[last.index] if last else self.axis.end) - begins, 2.0)
-            shown = self.names.in_text(parties)
-            self.put("rect", title=f"{shown}: {call.why}", x=begins, y=self.above(slot) + 4, width=across, height=ROW - 10, class_="call", fill=colour)
+            begins = self.axis.place(call.began, call.begins)
+            ends = self.axis.end if call.ended is None or call.ends is None else self.axis.place(call.ended, call.ends)
+            across, shown, why = max(ends - begins, 2.0), self.names.in_text(parties), printable(call.cause.replace("_", " ")) or "still active"
+            self.put("rect", title=f"{shown}: {why}", x=begins, y=self.above(slot) + 4, width=across, height=ROW - 10, class_="call", fill=colour)
             called = parties.split(" from ")[0]
             # the longest text that fits the bar
             text = next((it for it in (shown, self.names.in_text(called), parties, called) if across > 6 * columns_of(it)), "")
             if text:
                 self.put("text", text=text, x=begins + 3, y=self.above(slot) + 16)
 
-    def draw_event(self, index: int, event: Event) -> None:
+    def draw_event(self, event: Event) -> None:
         """The mark of an event."""
         across, title = self.axis.at[event.index], f"{self.at_tick(event.tick)}: {event_in_words(event, self.names)}"
         if event.what == "said":
@@ -310,12 +304,18 @@ class Drawing:
         elif event.what in ("heard", "active"):
             self.put("circle", title=title, cx=across, cy=self.above((event.carrier, event.slot)) + ROW - 5, r=2, class_="heard")
         elif event.what == "sent":
-            self.draw_sent(event, across, title, index in self.calls.ended)
+            self.draw_sent(event, across, title)
 
-    def draw_sent(self, event: Event, across: float, title: str, has_ended: bool) -> None:
-        """The mark of a PDU that was sent; `has_ended` is whether it grants a slot to a call that has ended. A C_ALOHA has none."""
+    def has_ended(self, grant: Pdu, index: int) -> bool:
+        """Whether the call of a grant has ended when it is sent, as an answer to an input."""
+        granted = self.by_lpcn.get(grant["lpcn"]), grant["slot"], granted_parties(grant)
+        return not any((it.carrier, it.slot, it.parties) == granted and it.begins <= index and (it.ends is None or index < it.ends) for it in self.calls)
+
+    def draw_sent(self, event: Event, across: float, title: str) -> None:
+        """The mark of a PDU that was sent. A C_ALOHA has none."""
         pdu, above = pdus.read(event.octets), self.above((event.carrier, event.slot))
         if is_grant(pdu):
+            has_ended = self.has_ended(pdu, event.index)
             kind = "ended" if has_ended else "late" if is_late(pdu) else "grant"
             title += ", a call that has ended" if has_ended else ""
             self.put("path", title=title, d=f"M{across:.1f} {above + 4}l4 8h-8z", class_=kind)

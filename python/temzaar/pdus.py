@@ -142,6 +142,31 @@ def read(octets: bytes) -> Pdu:
     return Pdu(OTHER, {})
 
 
+class Parties(NamedTuple):
+    """The parties of a call: whether a talkgroup is called, who is called, and the caller."""
+    is_group: bool
+    target: int
+    source: int
+
+    def __str__(self) -> str:
+        return f"{'group' if self.is_group else 'radio'} {self.target} from {self.source}"
+
+
+def is_grant(pdu: Pdu) -> bool:
+    """Whether it grants a slot to a call."""
+    return pdu.name in ("PV_GRANT", "TV_GRANT")
+
+
+def is_late(pdu: Pdu) -> bool:
+    """Whether it is a grant of a call that is active already."""
+    return pdu.name == "TV_GRANT" and bool(pdu["late"])
+
+
+def granted_parties(pdu: Pdu) -> Parties:
+    """The parties of a grant."""
+    return Parties(pdu.name == "TV_GRANT", pdu["target"], pdu["source"])
+
+
 def random_access(kind: int, target: int, source: int, options: int = 0) -> bytes:
     """A C_RAND: the request of the radio `source`."""
     return write("C_RAND", options=options, kind=kind, target=target, source=source)

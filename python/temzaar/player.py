@@ -13,8 +13,7 @@ from typing import Any, Protocol
 
 from temzaar import code, pdus
 from temzaar.frames import BYE, POLL, TO_CARRIER, Cutter, Frame, FrameType, Link, active, hello
-from temzaar.grants import Parties, SiteCalls, cleared_parties, granted_parties, is_fill, is_grant, is_late, requested_parties
-from temzaar.pdus import Pdu
+from temzaar.pdus import Pdu, granted_parties, is_grant, is_late
 from temzaar.process import connect
 from temzaar.script import SessionFault
 from temzaar.sitefile import Row, Site
@@ -89,8 +88,8 @@ class CarrierInPlay(Protocol):
 class Radios:
     """The radios of a site: what they send on the control slot, and how they react to what they receive."""
 
-    def __init__(self, site: Site, count: int, seed: int, counts: Counter[str], slots: "Slots") -> None:
-        self.site, self.counts, self.random, self.slots = site, counts, random.Random(seed), slots
+    def __init__(self, site: Site, count: int, seed: int, counts: Counter[str]) -> None:
+        self.site, self.counts, self.random = site, counts, random.Random(seed)
         self.radios = {address: Radio(address) for address in site.radios(count)}
         self.by_lpcn, self.groups = site.by_lpcn(), site.plan["groups"]
         self.to_send: list[bytes] = []
@@ -101,12 +100,6 @@ class Radios:
     def burst(self, octets: bytes) -> bytes:
         """A burst with up to three bits flipped, anywhere."""
         return code.burst_of(octets, self.random.sample(range(code.PLACES), self.random.choice((0, 0, 1, 2, 3))))
-
-    def call_request(self, kind: int, target: int, source: int) -> bytes:
-        """The burst of a request for a call."""
-        octets = pdus.random_access(kind, target, source)
-        self.slots.request(pdus.read(octets))
-        return self.burst(octets)
 
     def next_request(self, now: float, backoff: Backoff) -> bytes | None:
         """The 25 octets that a radio sends on the control slot in this frame, or None. Noise is reported to the backoff."""
@@ -141,9 +134,9 @@ class Radios:
         radio.asked = now
         if self.groups and self.random.random() < 0.6:
             self.counts["talkgroup requests"] += 1
-            return self.call_request(pdus.TALKGROUP_VOICE, self.random.choice(self.groups), radio.address)
+            return self.burst(pdus.random_access(pdus.TALKGROUP_VOICE, self.random.choice(self.groups), radio.address))
         self.counts["individual requests"] += 1
-        return self.call_request(pdus.INDIVIDUAL_VOICE, self.random.choice(list(self.radios)), radio.address)
+        return self.burst(pdus.random_access(pdus.INDIVIDUAL_VOICE, self.random.choice(list(self.radios)), radio.address))
 
     def receive(self, pdu: Pdu, carrier: int, slot: int, now: float) -> None:
         """A PDU is sent on a slot of a carrier."""
@@ -179,52 +172,36 @@ class Radios:
 
 @dataclass(frozen=True)
 class Sign:
-    """A grant, a P_CLEAR or a loss that a slot showed. `parties` is None for a loss. It came at `received`, and can have been so since `since` at the earliest."""
+    """A grant, a P_CLEAR or a loss that a slot showed. `parties` are without the caller for a P_CLEAR, and empty for a loss. It came at `received`, and can have
+    been so since `since` at the earliest."""
     grants: bool
-    parties: Parties | None
+    parties: tuple[int, ...]
     since: float
     received: float
 
     def can_end(self, grant: "Sign", before: "Sign") -> bool:
         """Whether it, a P_CLEAR or a loss, can have ended the call of `grant` before the sign `before`, also while that grant still waited."""
-        fits = self.parties is None or grant.parties is None or self.parties.fits(grant.parties)
-        return fits and self.received > grant.since and self.since < before.received
+        return grant.parties[:len(self.parties)] == self.parties and self.received > grant.since and self.since < before.received
 
 
 class Slots:
-    """The signs that each slot showed: whether one call at a time is active on it, and which grants were of calls that had ended."""
+    """The signs that each slot showed: whether one call at a time is active on it."""
 
-    def __init__(self, plan: dict[str, Any]) -> None:
-        self.calls = SiteCalls(plan)
+    def __init__(self) -> None:
         self.signs: dict[SlotKey, list[Sign]] = {}
 
     def grant(self, key: SlotKey, pdu: Pdu, since: float, received: float) -> None:
         """A grant names the slot; it may have waited since the last fill before its poll."""
-        parties = granted_parties(pdu)
-        self.signs.setdefault(key, []).append(Sign(True, parties, since, received))
-        self.calls.slot(key).grant(received, parties, is_late(pdu))
+        self.signs.setdefault(key, []).append(Sign(True, granted_parties(pdu), since, received))
 
     def clear(self, key: SlotKey, pdu: Pdu, since: float, received: float) -> None:
         """A P_CLEAR came on the slot."""
-        parties = cleared_parties(pdu)
-        self.signs.setdefault(key, []).append(Sign(False, parties, since, received))
-        self.calls.slot(key).clear(received, parties)
-
-    def request(self, pdu: Pdu) -> None:
-        """A radio requests a call."""
-        if parties := requested_parties(pdu):
-            self.calls.request(parties)
-
-    def fill(self) -> None:
-        """A fill came."""
-        self.calls.fill()
+        self.signs.setdefault(key, []).append(Sign(False, (pdu["group"], pdu["target"]), since, received))
 
     def lose(self, number: int, since: float, received: float) -> None:
         """A carrier was lost, and is up again."""
         for slot in (0, 1):
-            self.signs.setdefault((number, slot), []).append(Sign(False, None, since, received))
-        self.calls.change_carrier(number, received, False)
-        self.calls.change_carrier(number, received, True)
+            self.signs.setdefault((number, slot), []).append(Sign(False, (), since, received))
 
     def overlaps(self) -> int:
         """How many grants are of a call on a slot that another call holds: no P_CLEAR and no loss can have ended that one before."""
@@ -235,11 +212,6 @@ class Slots:
             for before, grant in zip(grants, grants[1:]):
                 found += grant.parties != before.parties and not any(it.can_end(before, grant) for it in ends)
         return found
-
-    def ended(self) -> int:
-        """How many grants were of calls that had ended."""
-        self.calls.finish()
-        return sum(len(calls.ended) for calls in self.calls.slots.values())
 
 
 class Carrier:
@@ -297,9 +269,9 @@ class Play:
         # seconds from each poll to its DONE
         self.times: list[float] = []
         self.version = options.link_version or site.link_version
-        self.slots, self.by_lpcn = Slots(site.plan), site.by_lpcn()
+        self.slots, self.by_lpcn = Slots(), site.by_lpcn()
         self.known: dict[bytes, bytes | None] = {}
-        self.radios = Radios(site, options.radios, options.seed, self.counts, self.slots)
+        self.radios = Radios(site, options.radios, options.seed, self.counts)
 
     def frames_heard(self, carrier: CarrierInPlay, now: float) -> bytes:
         """The frames of what a carrier hears. In version 2 it retransmits some RX, at once or with the next frames: that changes nothing."""
@@ -336,10 +308,9 @@ class Play:
             self.faults["bursts that are no codeword with its check"] += 1
             return
         pdu = pdus.read(octets)
-        if is_fill(pdu):
+        if pdu.name in ("C_ALOHA", "C_MOVE"):
             # nothing waited when the poll was sent
             carrier.queued_since = carrier.sent
-            self.slots.fill()
             self.faults["fills with another backoff than the noise that was sent makes"] += not carrier.backoff.is_in(pdu)
         self.radios.receive(pdu, carrier.number, slot, time.monotonic())
         granted = self.by_lpcn.get(pdu["lpcn"]) if is_grant(pdu) else None
@@ -397,7 +368,6 @@ class Play:
 
     def check_slots(self) -> None:
         """Counts the faults that the slots show."""
-        self.counts["grants of calls that had ended"] = self.slots.ended()
         self.faults["grants on a slot on which another stands"] = self.slots.overlaps()
         self.faults["registrations acknowledged more often than they were asked for"] = self.radios.not_asked
 

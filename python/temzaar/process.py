@@ -208,8 +208,18 @@ def connect(address: str, port: int, seconds: float = 10.0) -> socket.socket:
 
 def replay(program: str, site: str, script: str) -> str:
     """The output of the controller that replays the text of a script. SessionFault: it cannot be run, or refuses the script."""
+    return ask_program(script, program, "--site", site, "--script", "/dev/stdin")
+
+
+def journal_of(decoder: str, site: str, script: str) -> str:
+    """The journal of a site that runs the text of a script, as fields. SessionFault: the decoder cannot be run, or refuses the script."""
+    return ask_program(script, decoder, "journal", "--fields", "--site", site)
+
+
+def ask_program(text: str, program: str, *words: str) -> str:
+    """The output of a program that is given a text on its standard input. SessionFault: it cannot be run, or its status is not 0."""
     try:
-        done = subprocess.run([program, "--site", site, "--script", "/dev/stdin"], input=script.encode("utf-8"), capture_output=True, check=False, process_group=0)
+        done = subprocess.run([program, *words], input=text.encode("utf-8"), capture_output=True, check=False, process_group=0)
     except (OSError, ValueError) as fault:
         raise SessionFault(f"cannot run {program}: {fault.strerror if isinstance(fault, OSError) else fault}") from fault
     if done.returncode:

@@ -8,13 +8,12 @@ from datetime import UTC, datetime
 from typing import Any
 
 from temzaar import pdus
-from temzaar.calls import SlotKey
 from temzaar.clock import Clock, ClockFault, Window
 from temzaar.drawing import Gap as DrawnGap, Session
-from temzaar.grants import Call, Parties
+from temzaar.entries import Call
 from temzaar.moments import local_time, read_moment, short_text
 from temzaar.names import NO_NAMES, Names, named
-from temzaar.printable import printable
+from temzaar.pdus import Parties
 from temzaar.recordgaps import RESTARTED, Gap, find_gaps, gaps_within
 from temzaar.records import RecordedCall, RecordedEvent, RecordedTerm, RecordsFault, opened_records
 from temzaar.script import Event, Input
@@ -22,19 +21,17 @@ from temzaar.siteevents import COMMANDS, line_of
 
 RADIO_EVENTS = {"joined": "was registered", "left": "left", "dropped": "was dropped by an operator"}
 CARRIER_EVENTS = {"came_up": "up", "was_lost": "lost"}
-# What comes first of what has the same time: the end of a carrier's calls is its loss.
-ORDER = ("ended", "lost", "stopped", "up", "radio", "said", "began")
+# What comes first of what has the same time.
+ORDER = ("lost", "stopped", "up", "radio", "said")
 
 
 @dataclass(frozen=True)
 class Happening:
-    """Something with a time, in milliseconds since 1970, and what a picture has of it. `call` is the place of a call in the list of a period."""
+    """Something with a time, in milliseconds since 1970, and what a picture has of it."""
     at_ms: int
     what: str
     carrier: int = -1
-    slot: int = -1
     text: str = ""
-    call: int = -1
 
 
 @dataclass
@@ -136,35 +133,17 @@ def happening_of(event: RecordedEvent, names: Names) -> Happening | None:
     return None
 
 
-def call_happenings(period: Period) -> Iterator[Happening]:
-    """The beginnings and the ends of the calls' bars."""
-    for place, call in enumerate(period.calls):
-        yield Happening(call.began_ms, "began", call.carrier, call.slot, call=place)
-        if call.ended_ms <= period.to_ms:
-            yield Happening(call.ended_ms, "ended", call.carrier, call.slot, call=place)
-
-
 def happenings(period: Period, names: Names) -> list[Happening]:
-    """All that a picture shows, in the order of time. Of events before the period there are those that say which carriers are up."""
+    """All that a picture shows but calls, in the order of time. Of events before the period there are those that say which carriers are up."""
     shown = (happening_of(it, names) for it in period.events if it.at_ms >= period.from_ms)
-    return sorted([*carrier_happenings(period), *call_happenings(period), *(it for it in shown if it)], key=lambda it: (it.at_ms, ORDER.index(it.what)))
+    return sorted([*carrier_happenings(period), *(it for it in shown if it)], key=lambda it: (it.at_ms, ORDER.index(it.what)))
 
 
-class RecordedCalls:
-    """The calls of a period, as a drawing needs them. Of a grant the records have nothing."""
-
-    def __init__(self, period: Period, found: list[Happening]) -> None:
-        self.ended: set[int] = set()
-        self._bars: list[tuple[SlotKey, Call]] = []
-        begins, ends = ({it.call: index for index, it in enumerate(found) if it.what == what} for what in ("began", "ended"))
-        for place, call in enumerate(period.calls):
-            parties = Parties(call.is_group, call.target, call.source)
-            self._bars.append(((call.carrier, call.slot), Call(parties, begins[place], ends.get(place), printable(call.cause.replace("_", " ")))))
-        self._bars.sort(key=lambda it: it[1].begins)
-
-    def bars(self) -> list[tuple[SlotKey, Call]]:
-        """The calls, each with its slot, by their beginnings."""
-        return self._bars
+def drawn_calls(period: Period) -> list[Call]:
+    """The calls of a period, by their beginnings. The end of one that is longer is at its edge."""
+    calls = [Call(it.carrier, it.slot, Parties(it.is_group, it.target, it.source), period.tick_of(it.began_ms), ended=period.tick_of(it.ended_ms), ends=0, cause=it.cause)
+             for it in period.calls]
+    return sorted(calls, key=lambda it: it.began)
 
 
 def inputs_of(ticks: list[int], end: int) -> tuple[list[Input], list[int]]:
@@ -192,11 +171,11 @@ def session_of(period: Period, plan: dict[str, Any] | None, names: Names = NO_NA
     found = happenings(period, names)
     ticks = [period.tick_of(it.at_ms) for it in found]
     inputs, places = inputs_of(ticks, period.tick_of(period.to_ms))
-    events = [Event(places[n], ticks[n], it.what, it.carrier, it.slot, text=it.text) for n, it in enumerate(found)]
+    events = [Event(places[n], ticks[n], it.what, it.carrier, text=it.text) for n, it in enumerate(found)]
     begins = local_time(period.origin_ms)
     clock = Clock(1, begins.replace(tzinfo=None).isoformat() if begins else None)
     gaps = [DrawnGap(period.tick_of(it.from_ms), period.tick_of(it.to_ms), it.why) for it in gaps_within(period.gaps, period.from_ms, period.to_ms)]
-    return Session(plan_of_records(period, plan), inputs, events, clock, RecordedCalls(period, found), has_ticks=False, gaps=gaps, names=names)
+    return Session(plan_of_records(period, plan), inputs, events, clock, drawn_calls(period), has_ticks=False, gaps=gaps, names=names)
 
 
 def window_of(session: Session) -> Window:

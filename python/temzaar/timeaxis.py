@@ -24,7 +24,7 @@ class TimeAxis:
             self.at.append(self.place(tick))
             tick += it.count
 
-    def place(self, tick: int) -> float:
+    def place(self, tick: int, _: int = 0) -> float:
         """The place of a tick, at the edge if it is outside the window."""
         return self.left + self.scale * (min(max(tick, self.window.first), self.window.end) - self.window.first)
 

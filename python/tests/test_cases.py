@@ -68,24 +68,22 @@ class Sessions(unittest.TestCase):
 class OverLinks(unittest.TestCase):
     """The links that carriers are served by, on a wire in memory, come to the same. `dmr_decode` has them, and prints the journal of their events."""
 
-    BURST = re.compile(r"carrier (\d+) slot (\d): (.*)")
-
     def setUp(self) -> None:
         self.decoder = program("dmr_decode")
 
-    def bursts(self, case: Case) -> list[tuple[str, ...]]:
+    def bursts(self, case: Case) -> list[tuple[int, int, str]]:
         """Carrier, slot and PDU of each burst that is sent, in the order of the journal."""
         with tempfile.NamedTemporaryFile(suffix=".toml") as site:
             site.write(octets_of(case.site or ""))
             site.flush()
-            printed = subprocess.run([self.decoder, "journal", "--site", site.name], input=octets_of(case.script or ""), capture_output=True, check=True).stdout.decode()
-        return [found.groups() for entry in read_entries(printed.splitlines()) for it in entry.bursts() if (found := self.BURST.fullmatch(it))]
+            printed = subprocess.run([self.decoder, "journal", "--fields", "--site", site.name], input=octets_of(case.script or ""), capture_output=True, check=True).stdout.decode()
+        return [it for entry in read_entries(printed.splitlines()) for it in entry.bursts()]
 
     def test_each_sends_the_same(self) -> None:
         for case in (it for it in CASES if it.status == 0):
             with self.subTest(case.full_name):
                 events = Replay(read_script(octets_of(case.script or "").decode()), read_printed(case.printed)[0]).events
-                wanted = [(str(it.carrier), str(it.slot), pdus.read(it.octets).in_words(it.octets)) for it in events if it.what == "sent"]
+                wanted = [(it.carrier, it.slot, pdus.read(it.octets).in_words(it.octets)) for it in events if it.what == "sent"]
                 self.assertEqual(self.bursts(case), wanted)
 
 

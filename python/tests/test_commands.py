@@ -43,7 +43,8 @@ class Case(NamedTuple):
     said: str
 
 
-DRAW = "--site {site} --script {script} --printed {printed}"
+# the decoder prints a journal without an entry
+DRAW = "--site {site} --script {script} --printed {printed} --decoder /bin/true"
 CASES = (
     # no controller
     Case("siteview", "--console {free} --once", 1, "cannot connect to the console {free}: Connection refused"),
@@ -78,6 +79,7 @@ CASES = (
         ("--site {site} --script {text} --printed {printed}", "script line 1"), ("--site {site} --script {octets} --printed {printed}", "{octets}: octet 0 is not UTF-8"),
         ("--site {site} --script {script} --printed {none}", "{none}: No such file or directory"), ("--site {site} --script {script} --printed {folder}", "{folder}: Is a directory"),
         ("--site {site} --script {script} --printed {text}", "the output has no line for carrier 0"), ("--site {site} --script {script} --printed {octets}", "is not UTF-8"))),
+    Case("timeline", "--site {site} --script {script} --printed {printed} --decoder {none}", 1, "cannot run {none}: No such file or directory"),
     # an output that cannot be written
     Case("timeline", DRAW + " --out {folder}", 1, "{folder}: Is a directory"),
     Case("timeline", DRAW + " --out {none}/a.svg", 1, "{none}/a.svg: No such file or directory"),
@@ -186,7 +188,7 @@ class Ended(unittest.TestCase):
         return subprocess.run(line, capture_output=True, text=True, check=False, timeout=60)
 
     def test_outputs_that_end_or_are_full(self) -> None:
-        draw = ("timeline", "--site", TWO_CARRIERS, "--script", str(SCRIPT), "--printed", str(PRINTED))
+        draw = ("timeline", "--site", TWO_CARRIERS, "--script", str(SCRIPT), "--printed", str(PRINTED), "--decoder", "/bin/true")
         consoles = Consoles(REPLIES)
         self.addCleanup(consoles.close)
         view, ask = ("siteview", "--console", consoles.place, "--once"), ("console", "--tcp", consoles.place, "status")
@@ -201,7 +203,7 @@ class Ended(unittest.TestCase):
         """The reader has gone before anything was written. argparse passes over that when it prints a help text."""
         consoles = Consoles(REPLIES)
         self.addCleanup(consoles.close)
-        for words, status in ((("timeline", "--site", TWO_CARRIERS, "--script", str(SCRIPT), "--printed", str(PRINTED)), -signal.SIGPIPE),
+        for words, status in ((("timeline", "--site", TWO_CARRIERS, "--script", str(SCRIPT), "--printed", str(PRINTED), "--decoder", "/bin/true"), -signal.SIGPIPE),
                               (("siteview", "--console", consoles.place, "--once"), -signal.SIGPIPE),
                               (("console", "--tcp", consoles.place, "status"), -signal.SIGPIPE), (("check", "--no-controller", TWO_CARRIERS), -signal.SIGPIPE)):
             with self.subTest(words[0]):

@@ -9,7 +9,7 @@ import tempfile
 import unittest
 
 from temzaar import code, pdus
-from temzaar.entries import read_entries
+from temzaar.entries import EVENTS, read_row
 from temzaar.frames import FrameType, burst_frame, hello, rx, welcome
 from tests import decoded
 from tests.support import EXAMPLES, TOP, TWO_CARRIERS, program
@@ -19,6 +19,95 @@ CRATE = TOP / "crates" / "dmr_decode"
 # a PDU that is sent, as a judged session and as a decoded replay show it
 SENT = re.compile(r"      act: (?:send on|fill) carrier (\d+) slot (\d): (.*)")
 CARRIER, TX = re.compile(r"carrier (\d+)"), re.compile(r" *\d+  TX(?: number=\d+)? slot=(\d)")
+
+
+def heard(name: str, **values: int) -> str:
+    """The line of a script with a PDU on the control slot."""
+    return f"bytes 0 {rx(0, code.burst_of(pdus.write(name, **values))).hex()}"
+
+
+# A session of carrier 0 of two: the inputs of its script, and the journal as fields.
+FIELDS = (
+    ("# a comment is not an input\nopen 0", ""),
+    (f"bytes 0 {hello(0, 1, 1).hex()}", "up entry=1 input=2 tick=0 carrier=0\n"),
+    ("bytes 0 0300", """\
+poll entry=2 input=3 tick=0 carrier=0
+fill carrier=0 slot=0 text=C_ALOHA sync=0 version=0 offset=0 active=0 mask=0 function=0 nrand_wait=0 register=1 backoff=1 system=4660 address=0
+"""),
+    (heard("C_RAND", kind=14, options=1, source=1001, target=0xFFFEC6), """\
+heard entry=3 input=4 tick=0 carrier=0 slot=0 text=C_RAND options=1 flags=0 kind=registration target=16776902 source=1001
+joined radio=1001
+queue carrier=0 slot=0 text=C_ACKD info=0 reason=Reg_Accepted spare=0 target=1001 additional=16776902
+"""),
+    (heard("C_RAND", kind=14, options=1, source=1002, target=0xFFFEC6), """\
+heard entry=4 input=5 tick=0 carrier=0 slot=0 text=C_RAND options=1 flags=0 kind=registration target=16776902 source=1002
+joined radio=1002
+queue carrier=0 slot=0 text=C_ACKD info=0 reason=Reg_Accepted spare=0 target=1002 additional=16776902
+"""),
+    ("tick 2", "tick entry=5 input=6 tick=1\ntick entry=6 input=6 tick=2\n"),
+    (heard("C_RAND", kind=0, source=1001, target=1002), """\
+heard entry=7 input=7 tick=2 carrier=0 slot=0 text=C_RAND options=0 flags=0 kind=individual_voice target=1002 source=1001
+asked target=1002 source=1001 attempt=1
+queue carrier=0 slot=0 text=C_ACKD info=0 reason=Wait spare=0 target=1001 additional=1002
+queue carrier=0 slot=0 text=C_AHOY options=0 group=0 kind=individual_voice called=1002 calling=1001
+"""),
+    (heard("C_ACKU", reason=0x44, target=1001, additional=1002), """\
+heard entry=8 input=8 tick=2 carrier=0 slot=0 text=C_ACKU info=0 reason=MS_Accepted spare=0 target=1001 additional=1002
+unasked source=1001
+began source=1001 target=1002 carrier=0 slot=1 group=0
+queue carrier=0 slot=0 text=PV_GRANT lpcn=1 slot=1 target=1002 source=1001
+"""),
+    (f"bytes 0 {rx(0, bytes(25)).hex()}040101", "noise entry=9 input=9 tick=2 carrier=0 slot=0\nactive entry=10 input=9 tick=2 carrier=0 slot=1\n"),
+    (heard("C_RAND", kind=14, options=1, source=1003, target=0xFFFEC6), """\
+heard entry=11 input=10 tick=2 carrier=0 slot=0 text=C_RAND options=1 flags=0 kind=registration target=16776902 source=1003
+joined radio=1003
+queue carrier=0 slot=0 text=C_ACKD info=0 reason=Reg_Accepted spare=0 target=1003 additional=16776902
+"""),
+    (heard("C_RAND", kind=1, source=1003, target=91), """\
+heard entry=12 input=11 tick=2 carrier=0 slot=0 text=C_RAND options=0 flags=0 kind=talkgroup_voice target=91 source=1003
+lined source=1003 target=91 group=1
+queue carrier=0 slot=0 text=C_ACKD info=0 reason=Queued_For_Resource spare=0 target=1003 additional=91
+"""),
+    ("bytes 0 03000300030003000300", """\
+poll entry=13 input=12 tick=2 carrier=0
+send carrier=0 slot=0 text=C_ACKD info=0 reason=Reg_Accepted spare=0 target=1001 additional=16776902
+poll entry=14 input=12 tick=2 carrier=0
+send carrier=0 slot=0 text=C_ACKD info=0 reason=Reg_Accepted spare=0 target=1002 additional=16776902
+poll entry=15 input=12 tick=2 carrier=0
+send carrier=0 slot=0 text=C_ACKD info=0 reason=Wait spare=0 target=1001 additional=1002
+poll entry=16 input=12 tick=2 carrier=0
+send carrier=0 slot=0 text=C_AHOY options=0 group=0 kind=individual_voice called=1002 calling=1001
+poll entry=17 input=12 tick=2 carrier=0
+send carrier=0 slot=0 text=PV_GRANT lpcn=1 slot=1 target=1002 source=1001
+"""),
+    ("say  end 0 1", """\
+say entry=18 input=13 tick=2 text=end 0 1
+ended carrier=0 slot=1
+queue carrier=0 slot=1 text=P_CLEAR lpcn=1 group=0 target=1002 source=16776906
+reply text=ok
+"""),
+    ("bytes 0 0300", """\
+poll entry=19 input=14 tick=2 carrier=0
+send carrier=0 slot=0 text=C_ACKD info=0 reason=Reg_Accepted spare=0 target=1003 additional=16776902
+send carrier=0 slot=1 text=P_CLEAR lpcn=1 group=0 target=1002 source=16776906
+"""),
+    ("tick", """\
+tick entry=20 input=15 tick=3
+unlined source=1003
+began source=1003 target=91 carrier=0 slot=1 group=1
+queue carrier=0 slot=0 text=TV_GRANT lpcn=1 slot=1 late=0 target=91 source=1003
+"""),
+    ("say drop 1001\nsay radios 0", """\
+say entry=21 input=16 tick=3 text=drop 1001
+left radio=1001
+reply text=ok
+say entry=22 input=17 tick=3 text=radios 0
+reply text=radio 1002
+reply text=radio 1003
+reply text=end
+"""),
+    ("cut 0", "lost entry=23 input=18 tick=3 carrier=0\n"),
+)
 
 
 class Stored(unittest.TestCase):
@@ -168,10 +257,22 @@ class Judged(unittest.TestCase):
         for path in sorted((EXAMPLES / "scripts").glob("*.txt")):
             script = path.read_text(encoding="utf-8")
             answers = [line for line in self.judge(script).split("\n") if line.startswith(("      act: ", "      reply: "))]
-            journal = list(read_entries(self.ask("journal", "--site", TWO_CARRIERS, text=script).stdout.splitlines()))
-            acts, replies = ([*itertools.chain.from_iterable(lists)] for lists in zip(*((it.acts, it.replies) for it in journal), strict=True))
-            self.assertEqual([f"      act: {it}" for it in acts], [it for it in answers if " act: " in it])
-            self.assertEqual([f"      reply: {it}" for it in replies], [it for it in answers if " reply: " in it and "error unknown command" not in it])
+            journal = self.ask("journal", "--site", TWO_CARRIERS, text=script).stdout.splitlines()
+            for kind in (" act: ", " reply: "):
+                self.assertEqual([it for it in journal if kind in it], [it for it in answers if kind in it and "error unknown command" not in it])
+
+    def test_a_journal_as_fields(self) -> None:
+        """A session that was worked out by hand, with each kind of event and act."""
+        script = "".join(f"{given}\n" for given, _ in FIELDS)
+        self.assertEqual(self.ask("journal", "--fields", "--site", TWO_CARRIERS, text=script).stdout, "".join(printed for _, printed in FIELDS))
+
+    def test_journals_as_fields_of_examples(self) -> None:
+        """They have the entries that the journals in words have, and a line for each of their lines."""
+        for path in sorted((EXAMPLES / "scripts").glob("*.txt")):
+            script = path.read_text(encoding="utf-8")
+            words, fields = (self.ask("journal", *more, "--site", TWO_CARRIERS, text=script).stdout.splitlines() for more in ([], ["--fields"]))
+            self.assertEqual([("entry" if it.startswith("entry ") else it.split(": ")[0].strip()) for it in words],
+                             [("reply" if kind == "reply" else "entry" if kind in EVENTS else "act") for kind in (read_row(it).kind for it in fields)])
 
     def test_no_room(self) -> None:
         """With 57 PDUs that wait for the control slot, requests and answers are ignored."""

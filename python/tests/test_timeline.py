@@ -7,24 +7,27 @@ import re
 import subprocess
 import tempfile
 import unittest
-from typing import NamedTuple
+import unittest.mock
+from collections import Counter
 
 from temzaar import code, pdus
-from temzaar.calls import EndCause, list_calls
 from temzaar.cli.timeline import main, read_session
 from temzaar.clock import Clock, ClockFault, Window
-from temzaar.drawing import LEGEND, STYLE, Drawing
+from temzaar.drawing import LEGEND, STYLE, Drawing, Session
+from temzaar.entries import Call, calls_of
 from temzaar.frames import DONE, POLL, FrameType, active, burst_frame, hello, rx, welcome
+from temzaar.pdus import Parties
+from temzaar.process import journal_of
 from temzaar.script import SessionFault
 from temzaar.sitefile import Site
-from tests.support import EXAMPLES, TWO_CARRIERS, call_tool
+from tests.support import EXAMPLES, TWO_CARRIERS, call_tool, program
 
-# queued_call.txt over two_carriers.toml, with ticks of 60 ms from 10:15:00 on. The first call ends by hang time, after 100 ticks. With the next tick the
-# request that has waited since tick 0 gets its slot.
+# queued_call.txt over two_carriers.toml, with ticks of 60 ms from 10:15:00 on. All calls are over after 100 ticks, and one of them ends with each tick. With that
+# after the first end the request that has waited since tick 0 gets the slot.
 QUEUED_CALL = """\
 begun             ended             slot  kind       source  target  waited       cause of the end
 0 10:15:00.000    100 10:15:06.000  0/1   talkgroup  1001    91      -            hang time
-0 10:15:00.000    -                 1/0   talkgroup  1002    92      -            still active
+0 10:15:00.000    101 10:15:06.060  1/0   talkgroup  1002    92      -            hang time
 0 10:15:00.000    -                 1/1   talkgroup  1003    93      -            still active
 101 10:15:06.060  -                 0/1   talkgroup  1004    94      101 (6.1 s)  still active
 """
@@ -32,7 +35,8 @@ begun             ended             slot  kind       source  target  waited     
 
 def run_example(name: str, *words: str) -> subprocess.CompletedProcess[str]:
     """The tool over an example and its expected output."""
-    return call_tool(main, "--site", TWO_CARRIERS, "--script", str(EXAMPLES / "scripts" / f"{name}.txt"), "--printed", str(EXAMPLES / "expected" / f"{name}.txt"), *words)
+    files = "--script", str(EXAMPLES / "scripts" / f"{name}.txt"), "--printed", str(EXAMPLES / "expected" / f"{name}.txt")
+    return call_tool(main, "--site", TWO_CARRIERS, *files, "--decoder", program("dmr_decode"), *words)
 
 
 class Lists(unittest.TestCase):
@@ -62,7 +66,7 @@ class Lists(unittest.TestCase):
         before = run_example("queued_call", "--calls", "csv", "--start", "10:15").stdout.splitlines()
         self.assertEqual(sheet.splitlines()[:2], [before[0] + ",source_name,target_name,carrier_name", before[1] + ",'-Bus 12,Drivers,Mast North"])
         self.assertEqual([[*json.loads(rows)[n].values()][-3:] for n in (0, 1)], [["-Bus 12", "Drivers", "Mast North"], [None, None, None]])
-        for text in (">group 91 [Drivers] from 1001 [-Bus 12]: cleared</title>", " to group 91 [Drivers] from 1001 [-Bus 12]</title>", "C_ACKD to 1004", "P_CLEAR, called 91 [Drivers]", ">control Mast North</text>",
+        for text in (">group 91 [Drivers] from 1001 [-Bus 12]: hang time</title>", " to group 91 [Drivers] from 1001 [-Bus 12]</title>", "C_ACKD to 1004", "P_CLEAR, called 91 [Drivers]", ">control Mast North</text>",
                      "carrier 0 [Mast North] up "):
             self.assertIn(text, svg)
         self.assertEqual((fault.returncode, fault.stdout, fault.stderr), (1, "", f"timeline: {folder}/none: No such file or directory\n"))
@@ -78,18 +82,11 @@ class Lists(unittest.TestCase):
         self.assertEqual([line.split("  ")[-1].strip() for line in done.stdout.splitlines()[1:]], ["still active", "carrier lost", "carrier lost", "still active"])
 
     def test_calls_of_a_window(self) -> None:
-        # the first call's P_CLEAR was sent at tick 100
+        # the first call ended at tick 100
         for words, targets in ((["--from", "100"], ["91", "92", "93", "94"]), (["--from", "101"], ["92", "93", "94"]), (["--to", "100"], ["91", "92", "93"]),
                                (["--from", "10:15:06.06", "--start", "10:15"], ["92", "93", "94"])):
             done = run_example("queued_call", "--calls", "csv", *words)
             self.assertEqual([row["target"] for row in csv.DictReader(done.stdout.splitlines())], targets, words)
-
-
-class Turn(NamedTuple):
-    """A poll of carrier 0: what comes before it, and the PDUs of the answer, for slot 0 and slot 1."""
-    given: str
-    control: bytes
-    payload: bytes = b""
 
 
 def request(kind: int, target: int, source: int, options: int = 1) -> str:
@@ -97,61 +94,96 @@ def request(kind: int, target: int, source: int, options: int = 1) -> str:
     return f"bytes 0 {rx(0, code.burst_of(pdus.random_access(kind, target, source, options))).hex()}\n"
 
 
-ALOHA = pdus.write("C_ALOHA", register=1, backoff=1, system=0x1234)
-GRANT = pdus.write("TV_GRANT", lpcn=1, slot=1, target=91, source=1001)
-CLEAR = pdus.write("P_CLEAR", lpcn=1, group=1, target=91, source=0xFFFECA)
-CALLED = Turn(request(pdus.TALKGROUP_VOICE, 91, 1001), GRANT)
-CLEARED = Turn("", ALOHA, CLEAR)
-ACTIVE = f"bytes 0 {active(1).hex()}\n"
+def register(*radios: int) -> str:
+    """The lines of radios that register, and of the polls that acknowledge it."""
+    return "".join(request(pdus.REGISTRATION, 0xFFFEC6, radio) + POLLED for radio in radios)
 
 
-def played(turns: list[Turn]) -> tuple[str, str]:
-    """A script of carrier 0 with these turns, and its printed replay."""
-    script, sent = f"open 0\nbytes 0 {hello(0, 1).hex()}\n", welcome(1)
-    for turn in turns:
-        script += f"{turn.given}bytes 0 {POLL.hex()}\n"
-        sent += burst_frame(FrameType.TX, 0, code.burst_of(turn.control)) + (burst_frame(FrameType.TX, 1, code.burst_of(turn.payload)) if turn.payload else b"") + DONE
-    return script, f"carrier 0 {sent.hex().upper()}\ncarrier 1 -\nok\n"
+COMES_UP, POLLED, ACTIVE = f"open 0\nbytes 0 {hello(0, 1).hex()}\n", f"bytes 0 {POLL.hex()}\n", f"bytes 0 {active(1).hex()}\n"
+CALLED, NEXT = request(pdus.TALKGROUP_VOICE, 91, 1001), request(pdus.TALKGROUP_VOICE, 92, 1002)
+TAKEN = f"bytes 0 {rx(0, code.burst_of(pdus.write('C_ACKU', reason=pdus.MS_ACCEPTED, target=1002, additional=1003))).hex()}\n"
 
 
-class Causes(unittest.TestCase):
-    """Why a call ended, by the rules of docs/SITE_MACHINE.md."""
+class Calls(unittest.TestCase):
+    """The calls of scripts, worked out by the rules of docs/SITE_MACHINE.md: when each began and ended, why, and how long its request waited. Carrier 0 alone is up,
+    and has a slot for one call; the hang time is 10 ticks, and the maximum 15."""
 
-    plan = Site(TWO_CARRIERS, hang=10, maximum=15).plan
+    site = Site(TWO_CARRIERS, hang=10, maximum=15)
 
-    def test_each(self) -> None:
+    def calls(self, script: str, site: Site = site) -> list[Call]:
+        """The calls of a script; radios 1001 to 1003 register before."""
+        with tempfile.NamedTemporaryFile("w", suffix=".toml") as file:
+            file.write(site.text())
+            file.flush()
+            return calls_of(journal_of(program("dmr_decode"), file.name, COMES_UP + register(1001, 1002, 1003) + script), site.plan["hang"])
+
+    def test_ends(self) -> None:
         leaving = request(pdus.REGISTRATION, 0xFFFEC6, 1001, 0)
-        for name, turns, cause, ended in (
-            ("hang", [CALLED, Turn("tick 10\n", ALOHA, CLEAR)], EndCause.HANG, 10),
-            ("hang after activity", [CALLED, Turn("tick 4\n" + ACTIVE + "tick 10\n", ALOHA, CLEAR)], EndCause.HANG, 14),
-            ("maximum", [CALLED, Turn("tick 8\n" + ACTIVE + "tick 7\n", ALOHA, CLEAR)], EndCause.MAXIMUM, 15),
-            ("operator", [CALLED, Turn("tick 3\nsay  end 00 1 \n", ALOHA, CLEAR)], EndCause.OPERATOR, 3),
-            ("operator in two pieces", [CALLED, Turn("tick 3\ntext 656e64\ntext 2030203120200a\n", ALOHA, CLEAR)], EndCause.OPERATOR, 3),
-            ("drop", [CALLED, Turn("tick 3\nsay drop 1001\n", ALOHA, CLEAR)], EndCause.DROPPED, 3),
-            ("another radio is dropped, and another slot ended", [CALLED, Turn("tick 3\nsay drop 1002\nsay end 1 1\ntick 7\n", ALOHA, CLEAR)], EndCause.HANG, 10),
-            ("left", [CALLED, Turn("tick 2\n" + leaving, ALOHA, CLEAR)], EndCause.LEFT, 2),
-            ("the P_CLEAR waits, and then the operator comes", [CALLED, Turn("tick 12\nsay end 0 1\n", ALOHA, CLEAR)], EndCause.HANG, 12),
-            ("active", [CALLED, Turn("tick 3\n", ALOHA)], EndCause.ACTIVE, None),
+        for name, script, ended, cause in (
+            ("hang", "tick 10\n", 10, "hang_time"),
+            ("hang after activity", "tick 4\n" + ACTIVE + "tick 10\n", 14, "hang_time"),
+            ("maximum", "tick 8\n" + ACTIVE + "tick 7\n", 15, "maximum"),
+            ("operator", "tick 3\nsay  end 00 1 \n", 3, "ended_by_operator"),
+            ("operator in two pieces", "tick 3\ntext 656e64\ntext 2030203120200a\n", 3, "ended_by_operator"),
+            ("drop", "tick 3\nsay drop 1001\n", 3, "dropped"),
+            ("another radio is dropped, and another slot ended", "tick 3\nsay drop 1002\nsay end 1 1\ntick 7\n", 10, "hang_time"),
+            ("left", "tick 2\n" + leaving, 2, "radio_left"),
+            ("the P_CLEAR waits, and then the operator comes", "tick 12\nsay end 0 1\n" + POLLED, 10, "hang_time"),
+            ("lost before its P_CLEAR", "tick 10\ncut 0\n", 10, "hang_time"),
+            ("lost", "tick 3\ncut 0\n", 3, "carrier_lost"),
+            ("another connection", "tick 3\n" + COMES_UP, 3, "carrier_lost"),
+            ("active", "tick 3\n", None, ""),
         ):
             with self.subTest(name):
-                session = read_session(self.plan, *played(turns))
-                self.assertEqual([(it.begun, it.ended, it.cause) for it in list_calls(self.plan, session.events)], [(0, ended, cause)])
+                self.assertEqual([(it.carrier, it.slot, str(it.parties), it.began, it.ended, it.cause) for it in self.calls(CALLED + script)],
+                                 [(0, 1, "group 91 from 1001", 0, ended, cause)])
 
     def test_waits(self) -> None:
-        queued, refused = (pdus.write("C_ACKD", reason=reason, target=1001, additional=91) for reason in (0xA0, 0x60))
-        asked, cancelled = request(pdus.TALKGROUP_VOICE, 91, 1001), request(pdus.CANCEL, 91, 1001)
-        answered = f"bytes 0 {rx(0, code.burst_of(pdus.write('C_ACKU', reason=0x44, target=1001, additional=1002))).hex()}\n"
-        individual = pdus.write("PV_GRANT", lpcn=1, slot=1, target=1002, source=1001)
-        for name, turns, waited in (
-            ("at once", [CALLED], None),
-            ("from the request on", [Turn("tick 2\n" + asked, queued), Turn("tick 3\n" + asked, queued), Turn("tick 4\n", GRANT)], 7),
-            ("cancelled, and asked again", [Turn(asked, queued), Turn("tick 5\n" + cancelled, refused), Turn("tick 5\n" + asked, GRANT)], None),
-            ("from the answer of the called radio on", [Turn(request(pdus.INDIVIDUAL_VOICE, 1002, 1001), pdus.write("C_ACKD", reason=0xE0, target=1001, additional=1002)),
-                                                        Turn("tick 3\n" + answered, pdus.write("C_ACKD", reason=0xA0, target=1001, additional=1002)), Turn("tick 6\n", individual)], 6),
+        """The first call is over at tick 10, and its P_CLEAR is sent then. A request that waits gets the slot with the next tick."""
+        for name, script, began, waited in (
+            ("from the request on", "tick 2\n" + NEXT + "tick 3\n" + NEXT + "tick 5\n" + POLLED + "tick\n", 11, 9),
+            ("cancelled, and asked again", "tick 2\n" + NEXT + request(pdus.CANCEL, 0, 1002) + "tick 8\n" + POLLED + "tick 2\n" + NEXT, 12, None),
+            ("from the answer of the called radio on", "tick 2\n" + request(pdus.INDIVIDUAL_VOICE, 1003, 1002) + "tick 3\n" + TAKEN + "tick 5\n" + POLLED + "tick\n", 11, 6),
         ):
             with self.subTest(name):
-                session = read_session(self.plan, *played(turns))
-                self.assertEqual([it.waited for it in list_calls(self.plan, session.events)], [waited])
+                self.assertEqual([(it.began, it.waited) for it in self.calls(CALLED + script)], [(0, None), (began, waited)])
+
+    def test_without_a_poll(self) -> None:
+        """A call begins with its request, and ends with its hang time, also if neither its grant nor its P_CLEAR is sent."""
+        self.assertEqual([(it.began, it.begins, it.ended, it.ends, it.cause) for it in self.calls(CALLED + "tick 20\n")], [(0, 8, 10, 9, "hang_time")])
+
+
+def printed(*answers: tuple[bytes, bytes]) -> str:
+    """The printed replay of a script in which carrier 0 of two polls: a PDU for slot 0, and one or nothing for slot 1, for each poll."""
+    sent = welcome(1)
+    for control, payload in answers:
+        sent += burst_frame(FrameType.TX, 0, code.burst_of(control)) + (burst_frame(FrameType.TX, 1, code.burst_of(payload)) if payload else b"") + DONE
+    return f"carrier 0 {sent.hex().upper()}\ncarrier 1 -\nok\n"
+
+
+class Marks(unittest.TestCase):
+    """The marks of pictures: calls, grants of calls that had ended, late grants and received bursts."""
+
+    site = Site(TWO_CARRIERS, hang=1)
+
+    def test_each(self) -> None:
+        # three acknowledgements wait in front of the grant; the call ends by hang time, and its P_CLEAR is sent with the first of them
+        late = "".join(request(pdus.REGISTRATION, 0xFFFEC6, radio) for radio in (1001, 1002, 1003)) + CALLED + "tick\n" + 5 * POLLED
+        for name, script, drawn in (
+            ("a late grant", late, (1, 0, 1, 0, 4)),
+            # the call is active; the fourth fill names it again
+            ("a late entry", register(1001) + CALLED + 6 * POLLED, (1, 1, 0, 1, 2)),
+            # after the late grant has been sent another call gets the slot
+            ("the next call", late + NEXT + POLLED, (2, 1, 1, 0, 5)),
+            ("the same call again, which has its own grant", late + CALLED + POLLED, (2, 1, 1, 0, 5)),
+        ):
+            with self.subTest(name), tempfile.TemporaryDirectory() as folder:
+                paths = [os.path.join(folder, it) for it in ("site.toml", "script.txt")]
+                for path, text in zip(paths, (self.site.text(), COMES_UP + script), strict=True):
+                    pathlib.Path(path).write_text(text, encoding="utf-8")
+                svg = call_tool(main, "--site", paths[0], "--script", paths[1], "--program", program("dmr_trunk")).stdout
+                found = Counter(re.findall(r'class="(\w+)"', svg))
+                self.assertEqual(tuple(found[kind] for kind in ("call", "grant", "ended", "late", "heard")), drawn)
 
 
 class Clocks(unittest.TestCase):
@@ -188,15 +220,37 @@ class Clocks(unittest.TestCase):
         self.assertRaisesRegex(ClockFault, "more than 1000 pages", Window(0, 100001).pages, 100)
 
 
+ALOHA = pdus.write("C_ALOHA", register=1, backoff=1, system=0x1234)
+GRANT = pdus.write("TV_GRANT", lpcn=1, slot=1, target=91, source=1001)
+
+
 class Pictures(unittest.TestCase):
     """Windows and pages of pictures."""
+
+    def test_a_bar_ends_within_an_input(self) -> None:
+        """Of ten ticks that are one input a call takes the first four."""
+        session = self.session("tick 10\n" + POLLED, ALOHA)
+        session.calls[0].ended, session.calls[0].ends, session.calls[0].cause = 4, 3, "hang_time"
+        svg = Drawing(session, Window(0, 11)).draw()
+        places = {int(tick): float(x) for x, tick in re.findall(r'<text x="([\d.]+)"[^>]*class="small">(\d+)</text>', svg)}
+        bar = re.search(r'<rect x="([\d.]+)"[^>]*width="([\d.]+)"[^>]*class="call"', svg)
+        assert bar
+        # inputs take 14 px each, and so does a tick
+        self.assertEqual((float(bar[1]), float(bar[2])), (120 + 2 * 14, 14 + 4 * 14))
+        self.assertEqual(places[10], 120 + 3 * 14 + 10 * 14)
 
     def test_each_class_of_a_mark_has_a_place_in_the_legend(self) -> None:
         styled = set(re.findall(r"\.(\w+)\{", STYLE)) - {"small", "row", "control", "grid"}
         self.assertEqual({entry.kind for line in LEGEND for entry in line}, styled)
 
+    def session(self, script: str, *sent: bytes) -> Session:
+        """The session of carrier 0 with a script, in which a call begins with the third input, and these PDUs are sent with its polls."""
+        session = read_session(Site(TWO_CARRIERS).plan, COMES_UP + CALLED + script, printed(*((it, b"") for it in sent)))
+        session.calls = [Call(0, 1, Parties(True, 91, 1001), 0, 2)]
+        return session
+
     def test_a_call_that_began_before_the_window_is_drawn(self) -> None:
-        session = read_session(Site(TWO_CARRIERS).plan, *played([CALLED, Turn("tick 50\n" + ACTIVE, ALOHA), Turn("tick 50\n", ALOHA)]))
+        session = self.session(POLLED + "tick 50\n" + ACTIVE + POLLED + "tick 50\n" + POLLED, GRANT, ALOHA, ALOHA)
         for window, calls, received in ((Window(0, 101), 1, 2), (Window(10, 20), 1, 0), (Window(50, 51), 1, 1)):
             svg = Drawing(session, window).draw()
             self.assertEqual((len(re.findall('class="call"', svg)), len(re.findall('class="heard"', svg))), (calls, received), window)
@@ -205,7 +259,7 @@ class Pictures(unittest.TestCase):
             self.assertLessEqual(float(bar[1]) + float(bar[2]), 1100)
 
     def test_the_carrier_is_up_in_a_later_window(self) -> None:
-        session = read_session(Site(TWO_CARRIERS).plan, *played([CALLED, Turn("tick 100\n", ALOHA)]))
+        session = self.session(POLLED + "tick 100\n" + POLLED, GRANT, ALOHA)
         svg = Drawing(session, Window(40, 60)).draw()
         self.assertEqual(svg.count("carrier 0 is not up"), 0)
         self.assertEqual(svg.count("carrier 1 is not up"), 1)
@@ -237,11 +291,28 @@ class Faults(unittest.TestCase):
         self.assertRaisesRegex(SessionFault, "no line for carrier 1", read_session, plan, script, "carrier 0 -\n")
         self.assertRaisesRegex(SessionFault, "sent nothing", read_session, plan, script, "carrier 0 -\ncarrier 1 -\n")
 
+    def draw(self, printed_text: str, *words: str) -> subprocess.CompletedProcess[str]:
+        """The tool over an example and an output."""
+        with tempfile.NamedTemporaryFile("w") as output:
+            output.write(printed_text)
+            output.flush()
+            return call_tool(main, "--site", TWO_CARRIERS, "--script", str(EXAMPLES / "scripts" / "operator.txt"), "--printed", output.name, *words)
+
     def test_the_command_says_so(self) -> None:
-        with tempfile.NamedTemporaryFile("w") as empty:
-            done = call_tool(main, "--site", TWO_CARRIERS, "--script", str(EXAMPLES / "scripts" / "operator.txt"), "--printed", empty.name)
-        self.assertEqual((done.returncode, done.stdout), (1, ""))
-        self.assertEqual(done.stderr, "timeline: the output has no line for carrier 0: it is not that of a replay over this site file\n")
+        for text, said in (("", "the output has no line for carrier 0: it is not that of a replay over this site file"),
+                           (printed((ALOHA, b"")), "nothing answers carrier 1 at tick 0: is this the output of this script?")):
+            done = self.draw(text)
+            self.assertEqual((done.returncode, done.stdout, done.stderr), (1, "", f"timeline: {said}\n"))
+
+    def test_decoders(self) -> None:
+        """One that is not there, one that is a folder, one that refuses the words, and one that prints something else."""
+        expected = (EXAMPLES / "expected" / "operator.txt").read_text(encoding="utf-8")
+        with tempfile.TemporaryDirectory() as folder, unittest.mock.patch.dict(os.environ, PATH=folder):
+            for words, said in (([], "there is no dmr_decode on the PATH, which reads the calls of a script: name one with --decoder"),
+                                (["--decoder", folder], f"cannot run {folder}: Permission denied"), (["--decoder", "/bin/false"], "/bin/false ended with status 1"),
+                                (["--decoder", "/bin/echo"], f"not a line of a journal: journal --fields --site {TWO_CARRIERS}")):
+                done = self.draw(expected, *words)
+                self.assertEqual((done.returncode, done.stdout, done.stderr), (1, "", f"timeline: {said}\n"))
 
     def test_words_that_contradict(self) -> None:
         for words in (["--page", "1"], ["--page", "1", "--calls", "--out", "a"], ["--page", "0"], ["--page", "nan"], ["--calls", "yaml"]):

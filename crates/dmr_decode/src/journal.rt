@@ -1,14 +1,14 @@
-//! The journal of a judged site in words: each event that the site took, with its answer.
+//! The journal of a judged site: each event that the site took, with its answer, in words or as fields.
 
-use crate::acts_in_words::{show_acts, show_reply};
 use crate::desk::SiteDesk;
 use crate::judge::Judge;
 use crate::judged_carrier::memory_error;
 use crate::octet_wire::OctetWire;
+use crate::rows::{Form, row_of_event, show_acts, show_reply, show_row};
 use dmr_console::print;
 use dmr_core::{Entry, Event};
 use dmr_link::{Deposit, Desk};
-use dmr_pdu::{CarrierNo, OutOfMemory, Slot};
+use dmr_pdu::{CarrierNo, OutOfMemory};
 use dmr_plan::Plan;
 use dmr_recording::{Carriers, RecordingFault, record_journal};
 use dmr_replay::ScriptInput;
@@ -16,21 +16,27 @@ use std::alloc::Global;
 use std::io;
 use std::io::Write;
 
-/// Prints the entries of a journal, and counts them.
+/// Prints the entries of a journal, and counts them, the script's inputs and the ticks.
 #[derive(Drop)]
 pub struct EntryPrinter<'a> {
     alloc: Global,
     plan: &'a Plan,
+    form: Form,
     count: u64,
+    inputs: u64,
+    ticks: u64,
 }
 
 impl<'a> EntryPrinter<'a> {
     /// Begins with no entries, for the site of this plan.
-    pub fn new(alloc: Global, plan: &'a Plan) -> EntryPrinter<'a> {
+    pub fn new(alloc: Global, plan: &'a Plan, form: Form) -> EntryPrinter<'a> {
         EntryPrinter {
             alloc,
             plan,
+            form,
             count: 0,
+            inputs: 0,
+            ticks: 0,
         }
     }
 
@@ -46,36 +52,34 @@ impl<'a> EntryPrinter<'a> {
     /// Prints an event and its answer, as the next entry.
     fn show_entry<W: Write>(&mut self, deposit: &Deposit, out: &mut W) -> io::Result<()> {
         self.count = self.count.saturating_add(1);
-        let number = self.count;
-        write!(out, "entry {number}: ")?;
+        if matches!(deposit.event, Event::Tick) {
+            self.ticks = self.ticks.saturating_add(1);
+        }
         self.show_event(deposit, out)?;
-        show_acts(deposit.acts.list.as_slice(), out)?;
+        show_acts(deposit.acts.list.as_slice(), self.form, out)?;
         match &deposit.acts.said {
-            Some(reply) => show_reply(print(reply).as_str(), out),
+            Some(reply) => show_reply(print(reply).as_str(), self.form, out),
             None => Ok(()),
         }
     }
 
     /// Prints an event, and ends the line.
     fn show_event<W: Write>(&self, deposit: &Deposit, out: &mut W) -> io::Result<()> {
-        match &deposit.event {
-            Event::Up(carrier) => writeln!(out, "carrier {carrier} is up"),
-            Event::Lost(carrier) => writeln!(out, "carrier {carrier} is lost"),
-            Event::Heard(slot, pdu) => {
-                let Slot { carrier, slot } = *slot;
-                writeln!(out, "heard on carrier {carrier} slot {slot}: {pdu}")
-            }
-            Event::Noise(slot) => {
-                let Slot { carrier, slot } = *slot;
-                writeln!(out, "noise on carrier {carrier} slot {slot}")
-            }
-            Event::Active(slot) => {
-                let Slot { carrier, slot } = *slot;
-                writeln!(out, "activity on carrier {carrier} slot {slot}")
-            }
-            Event::Poll(carrier) => writeln!(out, "carrier {carrier} polls"),
-            Event::Tick => writeln!(out, "a tick"),
+        let row = row_of_event(&deposit.event);
+        self.show_number(row.kind, out)?;
+        match deposit.event {
             Event::Say(_) => self.show_command(deposit, out),
+            _ => show_row(&row, self.form, out),
+        }
+    }
+
+    /// Prints what is before an event of a kind: the numbers of the entry, and for programs those of the input and the
+    /// tick.
+    fn show_number<W: Write>(&self, kind: &str, out: &mut W) -> io::Result<()> {
+        let (entry, input, tick) = (self.count, self.inputs, self.ticks);
+        match self.form {
+            Form::Words => write!(out, "entry {entry}: "),
+            Form::Fields => write!(out, "{kind} entry={entry} input={input} tick={tick}"),
         }
     }
 
@@ -89,9 +93,17 @@ impl<'a> EntryPrinter<'a> {
         let mut text = String::new(self.alloc);
         let mut up = Carriers::none_up();
         match record_journal(self.alloc, self.plan, &mut up, &[entry], &mut text) {
-            Ok(()) => write!(out, "{}", text.as_str()),
+            Ok(()) => self.show_line(text.as_str(), out),
             Err(RecordingFault::OutOfMemory) => Err(memory_error(OutOfMemory)),
             Err(fault) => writeln!(out, "{fault}"),
+        }
+    }
+
+    /// Prints a command's line of a recording, `say LINE`.
+    fn show_line<W: Write>(&self, line: &str, out: &mut W) -> io::Result<()> {
+        match self.form {
+            Form::Words => write!(out, "{line}"),
+            Form::Fields => write!(out, " text={}", line.strip_prefix("say ").unwrap_or(line)),
         }
     }
 }
@@ -104,6 +116,7 @@ impl Judge {
         entries: &mut EntryPrinter<'_>,
         out: &mut W,
     ) -> io::Result<()> {
+        entries.inputs = entries.inputs.saturating_add(1);
         match input {
             ScriptInput::Open(carrier) => self.journal_open(*carrier, entries, out),
             ScriptInput::Bytes(carrier, octets) => {

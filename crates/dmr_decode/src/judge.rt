@@ -1,11 +1,11 @@
 //! A judged site: the controller's links over a site of its own, which say what the controller makes of each input.
 
-use crate::acts_in_words::{show_acts, show_reply};
 use crate::desk::SiteDesk;
 use crate::judged_carrier::{JudgedCarrier, memory_error, show_newest};
 use crate::kept::{both, push};
 use crate::octet_wire::OctetWire;
 use crate::printable::Printable;
+use crate::rows::{Form, show_acts, show_reply};
 use dmr_core::Event;
 use dmr_link::{ConsoleLink, Desk};
 use dmr_pdu::{CarrierNo, OutOfMemory};
@@ -157,7 +157,7 @@ impl Judge {
                 if !acts.list.is_empty() {
                     let tick = number.saturating_add(1);
                     writeln!(out, "      tick {tick}")?;
-                    show_acts(acts.list.as_slice(), out)?;
+                    show_acts(acts.list.as_slice(), Form::Words, out)?;
                 }
             }
         }
@@ -206,7 +206,7 @@ fn show_closed<W: Write>(out: &mut W) -> io::Result<()> {
 /// Prints what an operator receives, line by line.
 fn show_replies<W: Write>(octets: &[u8], out: &mut W) -> io::Result<()> {
     match str::from_utf8(octets) {
-        Ok(text) => show_reply(text, out),
+        Ok(text) => show_reply(text, Form::Words, out),
         Err(_) => Ok(()),
     }
 }

@@ -1,9 +1,9 @@
 //! A carrier of a judged site: its link, as the controller has it, and the frames that the link reads.
 
-use crate::acts_in_words::show_acts;
 use crate::carrier::show_word_in;
 use crate::desk::SiteDesk;
 use crate::octet_wire::OctetWire;
+use crate::rows::{Form, show_acts};
 use crate::verdict::{Verdict, verdict_of_end, verdict_of_event};
 use dmr_frames::{Cutter, FrameIn, Step, Version};
 use dmr_link::{Link, OpenGate, greatest_version};
@@ -169,7 +169,7 @@ impl JudgedCarrier {
 /// Prints the acts for the newest event that the desk keeps.
 pub fn show_newest<W: Write>(desk: &SiteDesk, out: &mut W) -> io::Result<()> {
     match desk.newest() {
-        Some(deposit) => show_acts(deposit.acts.list.as_slice(), out),
+        Some(deposit) => show_acts(deposit.acts.list.as_slice(), Form::Words, out),
         None => Ok(()),
     }
 }

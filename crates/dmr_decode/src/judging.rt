@@ -4,6 +4,7 @@
 use crate::journal::EntryPrinter;
 use crate::judge::Judge;
 use crate::printable::Printable;
+use crate::rows::Form;
 use crate::tasks::{TaskFault, octets_of};
 use dmr_frames::{Cutter, FrameIn, Step};
 use dmr_link::greatest_version;
@@ -37,12 +38,22 @@ pub fn judge<'a, W: Write>(
             judge_octets(alloc, plan, octets.as_slice(), out)
         }
         "script" => judge_script(alloc, plan, &mut Shown::Verdicts, text, out),
-        "journal" => {
-            let mut shown = Shown::Entries(EntryPrinter::new(alloc, plan));
-            judge_script(alloc, plan, &mut shown, text, out)
-        }
+        "journal" => judge_journal(alloc, plan, Form::Words, text, out),
+        "journal --fields" => judge_journal(alloc, plan, Form::Fields, text, out),
         _ => Err(TaskFault::NoSuchTask(task)),
     }
+}
+
+/// Prints the journal of the site of a plan for a script.
+fn judge_journal<'a, W: Write>(
+    alloc: Global,
+    plan: &Plan,
+    form: Form,
+    text: &str,
+    out: &mut W,
+) -> Result<(), TaskFault<'a>> {
+    let mut shown = Shown::Entries(EntryPrinter::new(alloc, plan, form));
+    judge_script(alloc, plan, &mut shown, text, out)
 }
 
 /// Makes the judge of a plan's site.

@@ -6,7 +6,7 @@
 //! - `dmr_decode pdu HEX`: ten octets
 //! - `dmr_decode replay`: the output of a replay
 //! - `dmr_decode script`: a script
-//! - `dmr_decode journal --site FILE`: the journal of a site that runs a script
+//! - `dmr_decode journal [--fields] --site FILE`: the journal of a site that runs a script
 //! - `dmr_decode write PDU`: the octets, check and burst of a PDU that is given in words
 //!
 //! `dmr_burst::read` reads the words, and `dmr_frames::Cutter` cuts the frames of carriers, so the output shows what
@@ -16,10 +16,9 @@
 //! With `--site FILE`, `carrier` and `script` also say what the controller of that site would count, ignore and answer,
 //! and which frame would end a connection. No rule is written here again: `judged_carrier` and `judge` have the links
 //! of `dmr_link`, which hand their events to the site of `dmr_core` at a `desk`. `verdict` names the outcome,
-//! `acts_in_words` shows the site's answers, `journal` its events, and `judging` has the tasks.
+//! `rows` has the texts of the site's events and answers, `journal` prints its entries, and `judging` has the tasks.
 #![tactic(auto)]
 
-mod acts_in_words;
 mod carrier;
 mod desk;
 mod journal;
@@ -30,6 +29,7 @@ mod kept;
 mod octet_wire;
 mod pdu_in_words;
 mod printable;
+mod rows;
 mod site;
 mod tasks;
 mod verdict;
@@ -70,8 +70,10 @@ With a site file, carrier and script also say what the controller of that site c
 ignores and answers, and which frame ends a connection:
   dmr_decode carrier --site site.toml HEX..
   dmr_decode script --site site.toml
-and journal prints each event that the site takes, and what the site does for it:
+and journal prints each event that the site takes, and what the site does for it,
+in words, or as fields for programs:
   dmr_decode journal --site site.toml
+  dmr_decode journal --fields --site site.toml
 
 Status: 0 it was said; 1 the input is not what was named, or a file; 2 the words; 4 memory, with a site file.
 ";
@@ -96,7 +98,7 @@ struct Words<'a> {
 
 /// Returns whether a task can judge its input by a site.
 fn is_judged(task: &str) -> bool {
-    task == "carrier" || task == "script" || task == "journal"
+    task == "carrier" || task == "script" || task == "journal" || task == "journal --fields"
 }
 
 /// Reads the words of the command line. `None` if there is no task, no path after `--site`, or a site for a task that
@@ -105,7 +107,12 @@ fn parse_words<'a>(words: &'a [String]) -> Option<Words<'a>> {
     let [task, rest @ ..] = words else {
         return None;
     };
-    let task = task.as_str();
+    let (task, rest) = match rest {
+        [option, rest @ ..] if task.as_str() == "journal" && option.as_str() == "--fields" => {
+            ("journal --fields", rest)
+        }
+        _ => (task.as_str(), rest),
+    };
     match rest {
         [option, path, rest @ ..] if option.as_str() == "--site" && is_judged(task) => Some(
             Words {

@@ -7,8 +7,9 @@
     timeline .. --calls csv --out calls.csv                         the calls, one to a line
     timeline --records site.db --from 08:00 --to 09:00 --out morning.svg    this hour of today, from the controller's file of records
 
---printed is what `dmr_trunk --site site.toml --script incident.txt` printed; with --program the tool runs that itself. A call's bar goes from its first
-grant to its P_CLEAR, or to the loss of its carrier. If no grant was sent before a call's end, it has no bar. Marks:
+--printed is what `dmr_trunk --site site.toml --script incident.txt` printed; with --program the tool runs that itself. The calls are those of the site's own
+journal, which `dmr_decode` reads from the script: the one next to PROGRAM, or on the PATH, or that of --decoder. A call's bar goes from its beginning to its
+end in the journal. Marks:
 
 - a grant: a triangle that points up, on the control slot; light if it is late, hollow if its call has ended
 - a clear: a triangle that points down
@@ -21,8 +22,7 @@ With --start clock times are above the ticks. Then --from and --to take
 them: HH:MM:SS, with a date YYYY-MM-DDTHH:MM:SS. A time of day before that of the start is one of the next day.
 
 The list of calls has for each when it began and ended, its carrier and slot, its kind, source and target. It also has how long the call waited for a slot, and
-why it ended. Times are ticks, and clock times if the start is known. Nothing that is sent says why a call ended: that follows from the site file and the
-script.
+why it ended. Times are ticks, and clock times if the start is known.
 
 With --records there is no script. The picture has what the records have: calls, carriers that come up and are lost, registrations and refusals in a row
 `radios`, and operators' commands. Grants, P_CLEARs, bursts and polls are not recorded. Time is drawn to one scale, with marks at round times, and a time without
@@ -38,26 +38,29 @@ together: standard error says which; 2 the words.
 """
 import argparse
 import os
+import shutil
 import sys
 from collections.abc import Sequence
 from typing import Any
 
-from temzaar.calls import list_calls
 from temzaar.callsheet import ListFormat, calls_in, write_list
 from temzaar.cli.command import add_names_option, amount_above, clean_up_on_signals, names_of_words, parse_words, run_command
 from temzaar.clock import Clock, Window
 from temzaar.drawing import Drawing, Session
+from temzaar.entries import calls_of
 from temzaar.faults import read_text, write_text
 from temzaar.moments import join_times
 from temzaar.names import NO_NAMES, Names
-from temzaar.process import replay
+from temzaar.process import journal_of, replay
 from temzaar.recordsession import read_period, session_of, window_of
 from temzaar.script import Replay, SessionFault, read_printed, read_script
 from temzaar.sitefile import read_plan
 
+DECODER = "dmr_decode"
+
 
 def read_session(plan: dict[str, Any], script: str, printed: str, start: str | None = None) -> Session:
-    """A script and what its replay printed, as a session. SessionFault: they do not belong together, or nothing was printed."""
+    """A script and what its replay printed, as a session without calls. SessionFault: they do not belong together, or nothing was printed."""
     inputs = read_script(script)
     carriers, told = read_printed(printed)
     for row in plan["carrier"]:
@@ -66,20 +69,27 @@ def read_session(plan: dict[str, Any], script: str, printed: str, start: str | N
     if not told and not any(carriers.values()):
         raise SessionFault("the replay of the script sent nothing, to no carrier and to no operator: there is nothing to draw")
     clock = Clock(plan["tick_ms"], start)
-    return Session(plan, inputs, Replay(inputs, carriers).events, clock)
+    return Session(plan, inputs, Replay(inputs, carriers).events, clock, [])
 
 
-def draw_script(plan: dict[str, Any], script: str, printed: str) -> str:
-    """The SVG of a script and what its replay printed. SessionFault: they do not belong together."""
-    session = read_session(plan, script, printed)
-    return Drawing(session, Window(0, session.ticks + 1)).draw()
+def find_decoder(options: argparse.Namespace) -> str:
+    """The decoder that reads the journal: that of the words, or the one next to the controller that they name, or on the PATH. SessionFault: there is none."""
+    if options.decoder:
+        return str(options.decoder)
+    beside = os.path.join(os.path.dirname(options.program or ""), DECODER)
+    found = beside if os.sep in beside and os.path.isfile(beside) else shutil.which(DECODER)
+    if not found:
+        raise SessionFault(f"there is no {DECODER} on the PATH, which reads the calls of a script: name one with --decoder")
+    return found
 
 
 def read_files(options: argparse.Namespace) -> Session:
     """The session of the files that the words name."""
     plan, script = read_plan(options.site), read_text(options.script)
     printed = replay(options.program, options.site, script) if options.program else read_text(options.printed)
-    return read_session(plan, script, printed, options.start)
+    session = read_session(plan, script, printed, options.start)
+    session.calls = calls_of(journal_of(find_decoder(options), options.site, script), plan["hang"])
+    return session
 
 
 def write_output(options: argparse.Namespace, text: str) -> None:
@@ -123,8 +133,7 @@ def draw_files(options: argparse.Namespace) -> int:
     names = names_of_words("timeline", options)
     session, window = read_what_is_drawn(options, names or NO_NAMES)
     if options.calls:
-        records = calls_in(list_calls(session.plan, session.events), window)
-        write_output(options, write_list(records, session.clock, ListFormat(options.calls), names))
+        write_output(options, write_list(calls_in(session.calls, window), session.clock, ListFormat(options.calls), names))
     elif options.page:
         draw_pages(options, session, window)
     else:
@@ -140,6 +149,7 @@ def read_words(words: Sequence[str] | None) -> argparse.Namespace:
     which = parser.add_mutually_exclusive_group(required=True)
     which.add_argument("--printed", help="what the replay of the script printed")
     which.add_argument("--program", help="the controller that is to replay the script")
+    parser.add_argument("--decoder", metavar="PROGRAM", help="the dmr_decode that reads the calls of the script")
     which.add_argument("--records", metavar="FILE", help="the controller's file of records, in place of a script")
     parser.add_argument("--out", help="the SVG, or the list; without it, standard output")
     parser.add_argument("--start", help="the clock time of tick 0: HH:MM:SS, or YYYY-MM-DDTHH:MM:SS (that which a recorded script has)")
@@ -155,8 +165,8 @@ def read_words(words: Sequence[str] | None) -> argparse.Namespace:
 
 def check_words(parser: argparse.ArgumentParser, options: argparse.Namespace) -> None:
     """Ends the command if words are missing, or do not belong together."""
-    if options.records and (options.script or options.start or options.calls):
-        parser.error("--records has no script, no --start and no --calls: callbook lists the calls of records")
+    if options.records and (options.script or options.start or options.calls or options.decoder):
+        parser.error("--records has no script, no --start, no --decoder and no --calls: callbook lists the calls of records")
     if not options.records and not (options.site and options.script):
         parser.error("the following arguments are required: --site, --script")
     if options.page and options.calls:

@@ -39,8 +39,8 @@ pub fn row_of_event(event: &Event) -> Row<'_> {
         Event::Noise(slot) => slot_row("noise", "noise on carrier # slot #", slot),
         Event::Active(slot) => slot_row("active", "activity on carrier # slot #", slot),
         Event::Poll(carrier) => carrier_row("poll", "carrier # polls", *carrier),
-        Event::Tick => row("tick", "a tick", "", [0; 5]),
-        Event::Say(_) => row("say", "", "", [0; 5]),
+        Event::Tick => plain_row("tick", "a tick", "", [0; 5]),
+        Event::Say(_) => plain_row("say", "", "", [0; 5]),
     }
 }
 
@@ -52,7 +52,7 @@ fn row_of_act(act: &Act) -> Row<'_> {
         Act::Fill(slot, pdu) => pdu_row("fill", "fill carrier # slot #: ", slot, pdu),
         Act::Joined(radio) => radio_row("joined", "radio # is registered", *radio),
         Act::Left(radio) => radio_row("left", "radio # is no longer registered", *radio),
-        Act::Asked(ask) => row(
+        Act::Asked(ask) => plain_row(
             "asked",
             "radio # is asked for #, attempt #",
             " target=# source=# attempt=#",
@@ -77,7 +77,7 @@ fn row_of_act(act: &Act) -> Row<'_> {
 }
 
 /// Returns a row without a PDU.
-fn row(
+fn plain_row(
     kind: &'static str,
     words: &'static str,
     fields: &'static str,
@@ -94,23 +94,23 @@ fn row(
 
 /// Returns the row of something with a carrier.
 fn carrier_row(kind: &'static str, words: &'static str, carrier: CarrierNo) -> Row<'static> {
-    row(kind, words, " carrier=#", [carrier.get(), 0, 0, 0, 0])
+    plain_row(kind, words, " carrier=#", [carrier.get(), 0, 0, 0, 0])
 }
 
 /// Returns the row of something with a radio.
 fn radio_row(kind: &'static str, words: &'static str, radio: Address) -> Row<'static> {
-    row(kind, words, " radio=#", [radio.get(), 0, 0, 0, 0])
+    plain_row(kind, words, " radio=#", [radio.get(), 0, 0, 0, 0])
 }
 
 /// Returns the row of something with the radio that calls.
 fn source_row(kind: &'static str, words: &'static str, source: Address) -> Row<'static> {
-    row(kind, words, " source=#", [source.get(), 0, 0, 0, 0])
+    plain_row(kind, words, " source=#", [source.get(), 0, 0, 0, 0])
 }
 
 /// Returns the row of something with a slot.
 fn slot_row(kind: &'static str, words: &'static str, slot: &Slot) -> Row<'static> {
     let Slot { carrier, slot } = *slot;
-    row(
+    plain_row(
         kind,
         words,
         " carrier=# slot=#",
@@ -138,7 +138,7 @@ fn line_row(line: &Line) -> Row<'static> {
         "the request of # to radio # waits for a slot"
     };
     let numbers = [line.source.get(), line.target.get(), flag(line.group), 0, 0];
-    row("lined", words, " source=# target=# group=#", numbers)
+    plain_row("lined", words, " source=# target=# group=#", numbers)
 }
 
 /// Returns the row of a call that begins.
@@ -156,7 +156,7 @@ fn call_row(call: &Call) -> Row<'static> {
         slot.get(),
         flag(call.group),
     ];
-    row(
+    plain_row(
         "began",
         words,
         " source=# target=# carrier=# slot=# group=#",

@@ -5,6 +5,7 @@ use Rattle.std.proofs.lemmas.List.{length-map}
 use Rattle.std.proofs.lemmas.List.Elements.{All-filter, All-map, All-push}
 use Rattle.std.proofs.lemmas.List.Filters.{length-filter_both}
 use Rattle.dmr_pdu.specs.declared.slots.Slot.{Slot}
+use Rattle.dmr_plan.specs.declared.settings.Settings.{Settings}
 use Rattle.dmr_calls.specs.declared.call.Call.{Call}
 use Rattle.dmr_calls.specs.Calls.{is_slot}
 use Rattle.dmr_core.specs.declared.event.Event.{Event}
@@ -14,6 +15,8 @@ use Rattle.dmr_core.specs.declared.act.Act.TheVariants.{Began, Ended}
 use Rattle.dmr_core.specs.declared.entry.Entry.{Entry}
 use Rattle.dmr_core.specs.Orders.{begun_by}
 use Rattle.dmr_keeper.specs.declared.calls.OpenCall.{OpenCall}
+use Rattle.dmr_keeper.specs.declared.lines.OpenLine.{OpenLine}
+use Rattle.dmr_keeper.specs.Lines.{lines_after_entry}
 use Rattle.dmr_keeper.specs.Ticks.{tick_at, ticks_in}
 use Rattle.dmr_keeper.specs.Calls.{begun_at, begun_in, ended_at, ended_by_act, ended_by_acts, ended_by_event, ended_in, ended_in_entry, is_of, is_on, one_tick_on, open_after, open_after_entry, open_by_act, open_by_event, with_activity_on}
 use Rattle.dmr_keeper.specs.Laws.{HasAge, HaveAges}
@@ -33,38 +36,39 @@ counted-event hang (Active slot) tick calls = omega (arith, length-map calls (wi
 counted-event hang Tick tick calls = omega (arith, length-map calls one_tick_on)
 counted-event hang _ tick calls = omega arith
 
-counted-act : (hang : ℕ) (event : Event) (tick : ℕ) (calls : List OpenCall) (act : Act) → length calls + length (begun_by act) ≡ length (ended_by_act hang event tick calls act) + length (open_by_act tick calls act)
-counted-act hang event tick calls (Began call) = omega (arith, length-append calls (begun_at tick call ∷ []))
-counted-act hang event tick calls (Ended slot) = omega (arith, parted hang event tick (is_on slot) calls)
-counted-act hang event tick calls _ = omega arith
+counted-act : (hang : ℕ) (event : Event) (tick : ℕ) (lines : List OpenLine) (calls : List OpenCall) (act : Act) → length calls + length (begun_by act) ≡ length (ended_by_act hang event tick calls act) + length (open_by_act tick lines calls act)
+counted-act hang event tick lines calls (Began call) = omega (arith, length-append calls (begun_at tick lines call ∷ []))
+counted-act hang event tick lines calls (Ended slot) = omega (arith, parted hang event tick (is_on slot) calls)
+counted-act hang event tick lines calls _ = omega arith
 
-counted-acts : (hang : ℕ) (event : Event) (tick : ℕ) (calls : List OpenCall) (acts : List Act) → length calls + length (flat_map begun_by acts) ≡ length (ended_by_acts hang event tick calls acts) + length (fold (open_by_act tick) calls acts)
-counted-acts hang event tick calls [] = omega arith
-counted-acts hang event tick calls (act ∷ acts) =
-    let then = open_by_act tick calls act in
-    let here = counted-act hang event tick calls act in
-    let later = counted-acts hang event tick then acts in
+counted-acts : (hang : ℕ) (event : Event) (tick : ℕ) (lines : List OpenLine) (calls : List OpenCall) (acts : List Act) → length calls + length (flat_map begun_by acts) ≡ length (ended_by_acts hang event tick lines calls acts) + length (fold (open_by_act tick lines) calls acts)
+counted-acts hang event tick lines calls [] = omega arith
+counted-acts hang event tick lines calls (act ∷ acts) =
+    let then = open_by_act tick lines calls act in
+    let here = counted-act hang event tick lines calls act in
+    let later = counted-acts hang event tick lines then acts in
     let begun = length-append (begun_by act) (flat_map begun_by acts) in
-    let ended = length-append (ended_by_act hang event tick calls act) (ended_by_acts hang event tick then acts) in
+    let ended = length-append (ended_by_act hang event tick calls act) (ended_by_acts hang event tick lines then acts) in
     omega (arith, here, later, begun, ended)
 
-counted-entry : (hang tick : ℕ) (calls : List OpenCall) (entry : Entry) → length calls + length (flat_map begun_by entry.acts.list) ≡ length (ended_in_entry hang tick calls entry) + length (open_after_entry tick calls entry)
-counted-entry hang tick calls entry =
+counted-entry : (hang tick : ℕ) (lines : List OpenLine) (calls : List OpenCall) (entry : Entry) → length calls + length (flat_map begun_by entry.acts.list) ≡ length (ended_in_entry hang tick lines calls entry) + length (open_after_entry tick lines calls entry)
+counted-entry hang tick lines calls entry =
     let then = open_by_event calls entry.event in
     let first = counted-event hang entry.event tick calls in
-    let later = counted-acts hang entry.event tick then entry.acts.list in
-    let ended = length-append (ended_by_event hang entry.event tick calls) (ended_by_acts hang entry.event tick then entry.acts.list) in
+    let later = counted-acts hang entry.event tick lines then entry.acts.list in
+    let ended = length-append (ended_by_event hang entry.event tick calls) (ended_by_acts hang entry.event tick lines then entry.acts.list) in
     omega (arith, first, later, ended)
 
-pub counted_once : (hang ticks : ℕ) (calls : List OpenCall) (journal : List Entry) → length calls + length (begun_in journal) ≡ length (ended_in hang ticks calls journal) + length (open_after ticks calls journal)
-counted_once hang ticks calls [] = omega arith
-counted_once hang ticks calls (entry ∷ journal) =
+pub counted_once : (plan : Settings) (ticks : ℕ) (lines : List OpenLine) (calls : List OpenCall) (journal : List Entry) → length calls + length (begun_in journal) ≡ length (ended_in plan ticks lines calls journal) + length (open_after plan ticks lines calls journal)
+counted_once plan ticks lines calls [] = omega arith
+counted_once plan ticks lines calls (entry ∷ journal) =
     let tick = tick_at ticks entry.event in
-    let then = open_after_entry tick calls entry in
-    let here = counted-entry hang tick calls entry in
-    let later = counted_once hang tick then journal in
+    let left = lines_after_entry plan tick lines entry in
+    let then = open_after_entry tick lines calls entry in
+    let here = counted-entry plan.hang tick lines calls entry in
+    let later = counted_once plan tick left then journal in
     let begun = length-append (flat_map begun_by entry.acts.list) (begun_in journal) in
-    let ended = length-append (ended_in_entry hang tick calls entry) (ended_in hang tick then journal) in
+    let ended = length-append (ended_in_entry plan.hang tick lines calls entry) (ended_in plan tick left then journal) in
     omega (arith, here, later, begun, ended)
 
 -- ages
@@ -75,12 +79,12 @@ aged ticks o has = record { began = omega (arith, has.began); age = omega (arith
 stirred : (ticks : ℕ) (slot : Slot) (o : OpenCall) → HasAge ticks o → HasAge ticks (with_activity_on slot o)
 stirred ticks slot o has = either (is_slot o.standing.call.slot slot)
   where
-    either : (b : Bool) → HasAge ticks (record { standing = cond b (record { call = o.standing.call; age = o.standing.age; quiet = 0 }) o.standing; began = o.began })
+    either : (b : Bool) → HasAge ticks (record o { standing = cond b (record { call = o.standing.call; age = o.standing.age; quiet = 0 }) o.standing })
     either true = record { began = has.began; age = has.age }
     either false = record { began = has.began; age = has.age }
 
-begins : (tick : ℕ) (call : Call) → HasAge tick (begun_at tick call)
-begins tick call = record { began = omega arith; age = omega arith }
+begins : (tick : ℕ) (lines : List OpenLine) (call : Call) → HasAge tick (begun_at tick lines call)
+begins tick lines call = record { began = omega arith; age = omega arith }
 
 -- no tick was counted
 unaged : (ticks : ℕ) (calls : List OpenCall) → HaveAges ticks calls → HaveAges (ticks + 0) calls
@@ -93,19 +97,20 @@ ages-event ticks calls (Active slot) have = unaged ticks _ (All-map (HasAge tick
 ages-event ticks calls Tick have = All-map (HasAge (ticks + 1)) one_tick_on calls (λ k d within. aged ticks _ (have k d within))
 ages-event ticks calls _ have = unaged ticks calls have
 
-ages-act : (tick : ℕ) (calls : List OpenCall) (act : Act) → HaveAges tick calls → HaveAges tick (open_by_act tick calls act)
-ages-act tick calls (Began call) have = All-push (HasAge tick) calls (begun_at tick call) have (begins tick call)
-ages-act tick calls (Ended slot) have = All-filter (λ o. not (is_on slot o)) (HasAge tick) calls have
-ages-act tick calls _ have = have
+ages-act : (tick : ℕ) (lines : List OpenLine) (calls : List OpenCall) (act : Act) → HaveAges tick calls → HaveAges tick (open_by_act tick lines calls act)
+ages-act tick lines calls (Began call) have = All-push (HasAge tick) calls (begun_at tick lines call) have (begins tick lines call)
+ages-act tick lines calls (Ended slot) have = All-filter (λ o. not (is_on slot o)) (HasAge tick) calls have
+ages-act tick lines calls _ have = have
 
-ages-acts : (tick : ℕ) (calls : List OpenCall) (acts : List Act) → HaveAges tick calls → HaveAges tick (fold (open_by_act tick) calls acts)
-ages-acts tick calls [] have = have
-ages-acts tick calls (act ∷ acts) have = ages-acts tick (open_by_act tick calls act) acts (ages-act tick calls act have)
+ages-acts : (tick : ℕ) (lines : List OpenLine) (calls : List OpenCall) (acts : List Act) → HaveAges tick calls → HaveAges tick (fold (open_by_act tick lines) calls acts)
+ages-acts tick lines calls [] have = have
+ages-acts tick lines calls (act ∷ acts) have = ages-acts tick lines (open_by_act tick lines calls act) acts (ages-act tick lines calls act have)
 
-pub ages_fit : (ticks : ℕ) (calls : List OpenCall) (journal : List Entry) → HaveAges ticks calls → HaveAges (ticks + ticks_in journal) (open_after ticks calls journal)
-ages_fit ticks calls [] have = unaged ticks calls have
-ages_fit ticks calls (entry ∷ journal) have =
+pub ages_fit : (plan : Settings) (ticks : ℕ) (lines : List OpenLine) (calls : List OpenCall) (journal : List Entry) → HaveAges ticks calls → HaveAges (ticks + ticks_in journal) (open_after plan ticks lines calls journal)
+ages_fit plan ticks lines calls [] have = unaged ticks calls have
+ages_fit plan ticks lines calls (entry ∷ journal) have =
     let tick = tick_at ticks entry.event in
-    let then = open_after_entry tick calls entry in
-    let here : HaveAges tick then = ages-acts tick (open_by_event calls entry.event) entry.acts.list (ages-event ticks calls entry.event have) in
-    subst (λ (n : ℕ). HaveAges n (open_after tick then journal)) (ticks-cons ticks entry journal) (ages_fit tick then journal here)
+    let left = lines_after_entry plan tick lines entry in
+    let then = open_after_entry tick lines calls entry in
+    let here : HaveAges tick then = ages-acts tick lines (open_by_event calls entry.event) entry.acts.list (ages-event ticks calls entry.event have) in
+    subst (λ (n : ℕ). HaveAges n (open_after plan tick left then journal)) (ticks-cons ticks entry journal) (ages_fit plan tick left then journal here)

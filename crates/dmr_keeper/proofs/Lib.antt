@@ -6,3 +6,4 @@ pub mod CauseLemmas
 pub mod KeepsLaws
 pub mod HandingLemmas
 pub mod NewestLemmas
+pub mod CarrierLemmas

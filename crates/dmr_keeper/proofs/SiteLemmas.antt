@@ -1,6 +1,6 @@
 -- What is carried is the site's.
 use Rattle.std.proofs.Common.{◌≡◌, ℕ, List, [], ◌∷◌, ◌++◌, Bool, true, false, length, map, refl, arith, ap, sym, ◌∙◌, reverse}
-use Rattle.std.specs.Prelude.{◌==◌, not, filter, fold, cond}
+use Rattle.std.specs.Prelude.{◌==◌, if◌then◌else◌, not, filter, fold, cond}
 use Rattle.std.proofs.lemmas.List.{length-map, map-append, reverse-append}
 use Rattle.dmr_plan.specs.declared.settings.Settings.{Settings}
 use Rattle.dmr_calls.specs.declared.line.Line.{Line}
@@ -9,15 +9,17 @@ use Rattle.dmr_calls.specs.Calls.{is_slot, one_tick_older, with_activity}
 use Rattle.dmr_core.specs.declared.event.Event.{Event}
 use Rattle.dmr_core.specs.declared.event.Event.TheVariants.{Up, Lost, Active, Tick}
 use Rattle.dmr_core.specs.declared.act.Act.{Act}
-use Rattle.dmr_core.specs.declared.act.Act.TheVariants.{Began, Ended}
+use Rattle.dmr_core.specs.declared.act.Act.TheVariants.{Began, Ended, Lined, Unlined}
 use Rattle.dmr_core.specs.declared.entry.Entry.{Entry}
 use Rattle.dmr_core.specs.Facts.{Facts, calls_by_act, calls_by_event, facts_after, lines_by_act, lines_by_event, registered_by_act, same_as_before, since}
 use Rattle.dmr_core.specs.Sound.{IsSound}
 use Rattle.dmr_keeper.specs.declared.calls.OpenCall.{OpenCall}
+use Rattle.dmr_keeper.specs.declared.lines.OpenLine.{OpenLine}
+use Rattle.dmr_keeper.specs.Lines.{lines_after, lines_after_act, lines_after_entry, lines_after_event}
 use Rattle.dmr_keeper.specs.Ticks.{tick_at}
 use Rattle.dmr_keeper.specs.Calls.{one_tick_on, open_after, open_after_entry, open_by_act, open_by_event, with_activity_on}
 use Rattle.dmr_keeper.specs.Carried.{Carry, carried_after}
-use Rattle.dmr_keeper.specs.Laws.{IsOfFacts, IsWithinLimits, standing_in}
+use Rattle.dmr_keeper.specs.Laws.{IsOfFacts, IsWithinLimits, lines_in, standing_in}
 
 -- a fact, oldest entry first
 
@@ -64,40 +66,76 @@ standing-event calls (Active slot) = map-both standing_of (with_activity_on slot
 standing-event calls Tick = map-both standing_of one_tick_on one_tick_older (λ o. refl) calls
 standing-event calls _ = refl
 
-standing-act : (tick : ℕ) (calls : List OpenCall) (act : Act) → standing_in (open_by_act tick calls act) ≡ calls_by_act (standing_in calls) act
-standing-act tick calls (Began call) = map-append standing_of calls _
-standing-act tick calls (Ended slot) = map-filter standing_of (λ s. not (is_slot s.call.slot slot)) calls
-standing-act tick calls _ = refl
+standing-act : (tick : ℕ) (lines : List OpenLine) (calls : List OpenCall) (act : Act) → standing_in (open_by_act tick lines calls act) ≡ calls_by_act (standing_in calls) act
+standing-act tick lines calls (Began call) = map-append standing_of calls _
+standing-act tick lines calls (Ended slot) = map-filter standing_of (λ s. not (is_slot s.call.slot slot)) calls
+standing-act tick lines calls _ = refl
 
-standing-acts : (tick : ℕ) (calls : List OpenCall) (acts : List Act) → standing_in (fold (open_by_act tick) calls acts) ≡ fold calls_by_act (standing_in calls) acts
-standing-acts tick calls [] = refl
-standing-acts tick calls (act ∷ acts) = standing-acts tick (open_by_act tick calls act) acts ∙ ap (λ (xs : List ActiveCall). fold calls_by_act xs acts) (standing-act tick calls act)
+standing-acts : (tick : ℕ) (lines : List OpenLine) (calls : List OpenCall) (acts : List Act) → standing_in (fold (open_by_act tick lines) calls acts) ≡ fold calls_by_act (standing_in calls) acts
+standing-acts tick lines calls [] = refl
+standing-acts tick lines calls (act ∷ acts) = standing-acts tick lines (open_by_act tick lines calls act) acts ∙ ap (λ (xs : List ActiveCall). fold calls_by_act xs acts) (standing-act tick lines calls act)
 
-standing-entry : (tick : ℕ) (calls : List OpenCall) (entry : Entry) → standing_in (open_after_entry tick calls entry) ≡ after_one calls_by_event calls_by_act (standing_in calls) entry
-standing-entry tick calls entry =
-    standing-acts tick (open_by_event calls entry.event) entry.acts.list ∙ ap (λ (xs : List ActiveCall). fold calls_by_act xs entry.acts.list) (standing-event calls entry.event)
+standing-entry : (tick : ℕ) (lines : List OpenLine) (calls : List OpenCall) (entry : Entry) → standing_in (open_after_entry tick lines calls entry) ≡ after_one calls_by_event calls_by_act (standing_in calls) entry
+standing-entry tick lines calls entry =
+    standing-acts tick lines (open_by_event calls entry.event) entry.acts.list ∙ ap (λ (xs : List ActiveCall). fold calls_by_act xs entry.acts.list) (standing-event calls entry.event)
 
-standing-journal : (ticks : ℕ) (calls : List OpenCall) (journal : List Entry) → standing_in (open_after ticks calls journal) ≡ fold (after_one calls_by_event calls_by_act) (standing_in calls) journal
-standing-journal ticks calls [] = refl
-standing-journal ticks calls (entry ∷ later) =
+standing-journal : (plan : Settings) (ticks : ℕ) (lines : List OpenLine) (calls : List OpenCall) (journal : List Entry) → standing_in (open_after plan ticks lines calls journal) ≡ fold (after_one calls_by_event calls_by_act) (standing_in calls) journal
+standing-journal plan ticks lines calls [] = refl
+standing-journal plan ticks lines calls (entry ∷ later) =
     let tick = tick_at ticks entry.event in
-    standing-journal tick (open_after_entry tick calls entry) later ∙ ap (λ (xs : List ActiveCall). fold (after_one calls_by_event calls_by_act) xs later) (standing-entry tick calls entry)
+    standing-journal plan tick (lines_after_entry plan tick lines entry) (open_after_entry tick lines calls entry) later ∙ ap (λ (xs : List ActiveCall). fold (after_one calls_by_event calls_by_act) xs later) (standing-entry tick lines calls entry)
+
+-- lines
+
+abbrev line_of : OpenLine → Line
+line_of l = l.line
+
+cleared : (b : Bool) (lines : List OpenLine) → lines_in (if b then [] else lines) ≡ (if b then [] else lines_in lines)
+cleared true lines = refl
+cleared false lines = refl
+
+lines-event : (plan : Settings) (lines : List OpenLine) (event : Event) → lines_in (lines_after_event plan lines event) ≡ lines_by_event plan (lines_in lines) event
+lines-event plan lines (Up carrier) = cleared (carrier == plan.control) lines
+lines-event plan lines (Lost carrier) = cleared (carrier == plan.control) lines
+lines-event plan lines _ = refl
+
+lines-act : (tick : ℕ) (lines : List OpenLine) (act : Act) → lines_in (lines_after_act tick lines act) ≡ lines_by_act (lines_in lines) act
+lines-act tick lines (Lined line) = map-append line_of lines _
+lines-act tick lines (Unlined radio) = map-filter line_of (λ l. not (l.source == radio)) lines
+lines-act tick lines _ = refl
+
+lines-acts : (tick : ℕ) (lines : List OpenLine) (acts : List Act) → lines_in (fold (lines_after_act tick) lines acts) ≡ fold lines_by_act (lines_in lines) acts
+lines-acts tick lines [] = refl
+lines-acts tick lines (act ∷ acts) = lines-acts tick (lines_after_act tick lines act) acts ∙ ap (λ (xs : List Line). fold lines_by_act xs acts) (lines-act tick lines act)
+
+lines-entry : (plan : Settings) (tick : ℕ) (lines : List OpenLine) (entry : Entry) → lines_in (lines_after_entry plan tick lines entry) ≡ after_one (lines_by_event plan) lines_by_act (lines_in lines) entry
+lines-entry plan tick lines entry =
+    lines-acts tick (lines_after_event plan lines entry.event) entry.acts.list ∙ ap (λ (xs : List Line). fold lines_by_act xs entry.acts.list) (lines-event plan lines entry.event)
+
+lines-journal : (plan : Settings) (ticks : ℕ) (lines : List OpenLine) (journal : List Entry) → lines_in (lines_after plan ticks lines journal) ≡ fold (after_one (lines_by_event plan) lines_by_act) (lines_in lines) journal
+lines-journal plan ticks lines [] = refl
+lines-journal plan ticks lines (entry ∷ later) =
+    let tick = tick_at ticks entry.event in
+    lines-journal plan tick (lines_after_entry plan tick lines entry) later ∙ ap (λ (xs : List Line). fold (after_one (lines_by_event plan) lines_by_act) xs later) (lines-entry plan tick lines entry)
 
 -- all of it
 
 pub stays_the_sites : (plan : Settings) (facts : Facts) (before : Carry) (journal : List Entry) → IsOfFacts before facts → IsOfFacts (carried_after plan before journal) (facts_after plan facts (reverse journal))
 stays_the_sites plan facts before journal is = record {
   calls =
-      standing-journal before.ticks before.calls journal
+      standing-journal plan before.ticks before.lines before.calls journal
       ∙ ap (λ (xs : List ActiveCall). fold (after_one calls_by_event calls_by_act) xs journal) is.calls
       ∙ sym (since-reversed calls_by_event calls_by_act facts.calls journal);
-  lines = ap (λ (xs : List Line). fold (after_one (lines_by_event plan) lines_by_act) xs journal) is.lines ∙ sym (since-reversed (lines_by_event plan) lines_by_act facts.lines journal);
+  lines =
+      lines-journal plan before.ticks before.lines journal
+      ∙ ap (λ (xs : List Line). fold (after_one (lines_by_event plan) lines_by_act) xs journal) is.lines
+      ∙ sym (since-reversed (lines_by_event plan) lines_by_act facts.lines journal);
   registered = ap (λ (xs : List ℕ). fold (after_one same_as_before registered_by_act) xs journal) is.registered ∙ sym (since-reversed same_as_before registered_by_act facts.registered journal);
 }
 
 pub within_limits : (plan : Settings) (facts : Facts) (carry : Carry) → IsSound plan facts → IsOfFacts carry facts → IsWithinLimits carry
 within_limits plan facts carry sound is = record {
   calls = omega (arith, length-map carry.calls standing_of, ap length is.calls, sound.few_calls);
-  lines = omega (arith, ap length is.lines, sound.few_lines);
+  lines = omega (arith, length-map carry.lines line_of, ap length is.lines, sound.few_lines);
   registered = omega (arith, ap length is.registered, sound.few_radios);
 }

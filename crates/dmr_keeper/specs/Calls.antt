@@ -2,6 +2,7 @@
 use Rattle.std.specs.Prelude.{ℕ, List, [], ◌∷◌, ◌++◌, Bool, not, ◌==◌, filter, fold, flat_map}
 use Rattle.std.specs.Prelude.{map}
 use Rattle.dmr_pdu.specs.declared.slots.Slot.{Slot}
+use Rattle.dmr_plan.specs.declared.settings.Settings.{Settings}
 use Rattle.dmr_calls.specs.declared.call.Call.{Call}
 use Rattle.dmr_calls.specs.Calls.{is_slot, just_begun, one_tick_older, with_activity}
 use Rattle.dmr_core.specs.declared.event.Event.{Event}
@@ -12,20 +13,26 @@ use Rattle.dmr_core.specs.declared.entry.Entry.{Entry}
 use Rattle.dmr_core.specs.Orders.{begun_by}
 use Rattle.dmr_keeper.specs.declared.calls.OpenCall.{OpenCall}
 use Rattle.dmr_keeper.specs.declared.calls.EndedCall.{EndedCall}
+use Rattle.dmr_keeper.specs.declared.lines.OpenLine.{OpenLine}
 use Rattle.dmr_keeper.specs.Causes.{cause_of}
+use Rattle.dmr_keeper.specs.Lines.{lines_after_entry, waited_at}
 use Rattle.dmr_keeper.specs.Ticks.{tick_at}
 
--- a call that begins at this tick
-abbrev pub begun_at : ℕ → Call → OpenCall
-begun_at tick call = record { standing = just_begun call; began = tick }
+-- a call that begins at this tick, in an entry before which these lines waited
+abbrev pub begun_at : ℕ → List OpenLine → Call → OpenCall
+begun_at tick lines call = record {
+  standing = just_begun call;
+  began = tick;
+  waited = waited_at tick lines call.source;
+}
 
 -- an open call after one more tick
 abbrev pub one_tick_on : OpenCall → OpenCall
-one_tick_on o = record { standing = one_tick_older o.standing; began = o.began }
+one_tick_on o = record o { standing = one_tick_older o.standing }
 
 -- an open call after activity on a slot
 abbrev pub with_activity_on : Slot → OpenCall → OpenCall
-with_activity_on slot o = record { standing = with_activity slot o.standing; began = o.began }
+with_activity_on slot o = record o { standing = with_activity slot o.standing }
 
 -- the call is on the slot
 abbrev pub is_on : Slot → OpenCall → Bool
@@ -41,6 +48,7 @@ ended_at hang event tick o = record {
   call = o.standing.call;
   began = o.began;
   ended = tick;
+  waited = o.waited;
   cause = cause_of hang event o.standing;
 }
 
@@ -62,10 +70,10 @@ ended_by_event hang (Lost carrier) tick calls =
 ended_by_event hang _ tick calls = []
 
 -- open calls after an act: Began opens, Ended closes those on its slot
-abbrev pub open_by_act : ℕ → List OpenCall → Act → List OpenCall
-open_by_act tick calls (Began call) = calls ++ begun_at tick call ∷ []
-open_by_act tick calls (Ended slot) = filter (λ o. not (is_on slot o)) calls
-open_by_act tick calls _ = calls
+abbrev pub open_by_act : ℕ → List OpenLine → List OpenCall → Act → List OpenCall
+open_by_act tick lines calls (Began call) = calls ++ begun_at tick lines call ∷ []
+open_by_act tick lines calls (Ended slot) = filter (λ o. not (is_on slot o)) calls
+open_by_act tick lines calls _ = calls
 
 -- the records of the calls that an act closes
 abbrev pub ended_by_act : ℕ → Event → ℕ → List OpenCall → Act → List EndedCall
@@ -74,37 +82,40 @@ ended_by_act hang event tick calls (Ended slot) =
 ended_by_act hang event tick calls _ = []
 
 -- the records of the calls that acts close, each with the calls that are open before it
-abbrev pub ended_by_acts : ℕ → Event → ℕ → List OpenCall → List Act → List EndedCall
-ended_by_acts hang event tick calls [] = []
-ended_by_acts hang event tick calls (act ∷ acts) =
+abbrev pub ended_by_acts : ℕ → Event → ℕ → List OpenLine → List OpenCall → List Act → List EndedCall
+ended_by_acts hang event tick lines calls [] = []
+ended_by_acts hang event tick lines calls (act ∷ acts) =
     ended_by_act hang event tick calls act
-    ++ ended_by_acts hang event tick (open_by_act tick calls act) acts
+    ++ ended_by_acts hang event tick lines (open_by_act tick lines calls act) acts
 
--- the open calls after an entry, whose event is that of this tick or comes after it
-abbrev pub open_after_entry : ℕ → List OpenCall → Entry → List OpenCall
-open_after_entry tick calls entry =
-    fold (open_by_act tick) (open_by_event calls entry.event) entry.acts.list
+-- the open calls after an entry, whose event is that of this tick or comes after it. These lines waited before the
+-- entry
+abbrev pub open_after_entry : ℕ → List OpenLine → List OpenCall → Entry → List OpenCall
+open_after_entry tick lines calls entry =
+    fold (open_by_act tick lines) (open_by_event calls entry.event) entry.acts.list
 
 -- the records of the calls that an entry closes: those of its event, then those of its acts
-abbrev pub ended_in_entry : ℕ → ℕ → List OpenCall → Entry → List EndedCall
-ended_in_entry hang tick calls entry =
+abbrev pub ended_in_entry : ℕ → ℕ → List OpenLine → List OpenCall → Entry → List EndedCall
+ended_in_entry hang tick lines calls entry =
     ended_by_event hang entry.event tick calls
-    ++ ended_by_acts hang entry.event tick (open_by_event calls entry.event) entry.acts.list
+    ++ ended_by_acts hang entry.event tick lines (open_by_event calls entry.event) entry.acts.list
 
--- the calls that are open after a journal, from the ticks and the open calls before it
-abbrev pub open_after : ℕ → List OpenCall → List Entry → List OpenCall
-open_after ticks calls [] = calls
-open_after ticks calls (entry ∷ later) =
-    open_after (tick_at ticks entry.event)
-    (open_after_entry (tick_at ticks entry.event) calls entry) later
+-- the calls that are open after a journal, from the ticks, the lines and the open calls before it
+abbrev pub open_after : Settings → ℕ → List OpenLine → List OpenCall → List Entry → List OpenCall
+open_after plan ticks lines calls [] = calls
+open_after plan ticks lines calls (entry ∷ later) =
+    open_after plan (tick_at ticks entry.event)
+    (lines_after_entry plan (tick_at ticks entry.event) lines entry)
+    (open_after_entry (tick_at ticks entry.event) lines calls entry) later
 
 -- the records of the calls that ended in a journal
-abbrev pub ended_in : ℕ → ℕ → List OpenCall → List Entry → List EndedCall
-ended_in hang ticks calls [] = []
-ended_in hang ticks calls (entry ∷ later) =
-    ended_in_entry hang (tick_at ticks entry.event) calls entry
-    ++ ended_in hang (tick_at ticks entry.event)
-    (open_after_entry (tick_at ticks entry.event) calls entry) later
+abbrev pub ended_in : Settings → ℕ → List OpenLine → List OpenCall → List Entry → List EndedCall
+ended_in plan ticks lines calls [] = []
+ended_in plan ticks lines calls (entry ∷ later) =
+    ended_in_entry plan.hang (tick_at ticks entry.event) lines calls entry
+    ++ ended_in plan (tick_at ticks entry.event)
+    (lines_after_entry plan (tick_at ticks entry.event) lines entry)
+    (open_after_entry (tick_at ticks entry.event) lines calls entry) later
 
 -- the calls that began in a journal, by their slots
 abbrev pub begun_in : List Entry → List Slot

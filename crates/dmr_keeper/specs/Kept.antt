@@ -1,6 +1,7 @@
 -- What a store has kept.
 use Rattle.std.specs.Prelude.{◌≡◌, ℕ, List, [], ◌∷◌, ◌++◌, Option, Some, fold}
 use Rattle.dmr_keeper.specs.declared.calls.EndedCall.{EndedCall}
+use Rattle.dmr_keeper.specs.declared.carriers.CarrierCounts.{CarrierCounts}
 use Rattle.dmr_keeper.specs.declared.changes.Change.{Change}
 use Rattle.dmr_keeper.specs.declared.counts.TermCounts.{TermCounts}
 use Rattle.dmr_keeper.specs.declared.notes.Note.{Note}
@@ -13,12 +14,21 @@ pub record Kept : Type 0 where
   pub changes : List Change
   pub notes : List Note
   pub counts : List TermCounts  -- one for each term
+  pub carriers : List CarrierCounts  -- those of each term, lowest carrier first
   pub times : List TermTime  -- one for each term
   pub registered : List ℕ  -- the radios after the last term, in the order of joining
 
 -- before the first term
 abbrev pub nothing_kept : Kept
-nothing_kept = record { calls = []; changes = []; notes = []; counts = []; times = []; registered = [] }
+nothing_kept = record {
+  calls = [];
+  changes = [];
+  notes = [];
+  counts = [];
+  carriers = [];
+  times = [];
+  registered = [];
+}
 
 -- after the records of one more term
 abbrev pub kept_with : Kept → TimedRecords → Kept
@@ -27,6 +37,7 @@ kept_with kept term = record {
   changes = kept.changes ++ term.records.changes.items;
   notes = kept.notes ++ term.records.notes.items;
   counts = kept.counts ++ term.records.counts ∷ [];
+  carriers = kept.carriers ++ term.records.carriers.items;
   times = kept.times ++ term.time ∷ [];
   registered = term.records.after.registered;
 }

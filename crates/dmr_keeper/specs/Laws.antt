@@ -10,17 +10,23 @@ use Rattle.dmr_core.specs.declared.event.Event.TheVariants.{Heard, Tick, Say}
 use Rattle.dmr_core.specs.declared.act.Act.{Act}
 use Rattle.dmr_core.specs.declared.act.Act.TheVariants.{Ended}
 use Rattle.dmr_core.specs.Facts.{Facts}
+use Rattle.dmr_calls.specs.declared.line.Line.{Line}
 use Rattle.dmr_keeper.specs.declared.calls.OpenCall.{OpenCall}
+use Rattle.dmr_keeper.specs.declared.lines.OpenLine.{OpenLine}
 use Rattle.dmr_keeper.specs.Carried.{Carry}
 
 -- the calls of a site among those that are open
 abbrev pub standing_in : List OpenCall → List ActiveCall
 standing_in calls = map (λ (o : OpenCall). o.standing) calls
 
+-- the lines of a site among those with their ticks
+abbrev pub lines_in : List OpenLine → List Line
+lines_in lines = map (λ (l : OpenLine). l.line) lines
+
 -- the open calls, the lines and the registered radios are those of the facts of a site
 pub record IsOfFacts (carry : Carry) (facts : Facts) : Type 0 where
   pub calls : standing_in carry.calls ≡ facts.calls
-  pub lines : carry.lines ≡ facts.lines
+  pub lines : lines_in carry.lines ≡ facts.lines
   pub registered : carry.registered ≡ facts.registered
 
 -- the site's own limits

@@ -1,11 +1,12 @@
 pub mod Causes
 pub mod Ticks
+pub mod Lines
 pub mod Calls
 pub mod Closing
 pub mod Changes
 pub mod Notes
 pub mod Counts
-pub mod Lines
+pub mod Carriers
 pub mod Registered
 pub mod Carried
 pub mod Records

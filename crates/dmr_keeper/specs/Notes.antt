@@ -1,9 +1,12 @@
--- Notes: carriers that come up or are lost, refused requests, and operators' commands that change the site.
-use Rattle.std.specs.Prelude.{ℕ, ◌++◌, List, [], ◌∷◌, ◌==◌, Bool, if◌then◌else◌, Option, Some, None}
-use Rattle.std.specs.Prelude.{filter_map}
+-- Notes: carriers that come up or are lost, radios that join calls, refused requests, and operators' commands that
+-- change the site.
+use Rattle.std.specs.Prelude.{ℕ, ◌++◌, List, [], ◌∷◌, ◌==◌, Bool, false, if◌then◌else◌, Option, Some}
+use Rattle.std.specs.Prelude.{None, filter_map, find, option_map}
 use Rattle.std.specs.List.{list_any}
-use Rattle.std.specs.Option.{option_to_list}
-use Rattle.dmr_pdu.specs.declared.pdu.Pdu.TheVariants.{Ackd}
+use Rattle.std.specs.Option.{option_and_then, option_to_list}
+use Rattle.dmr_plan.specs.declared.settings.Settings.{Settings}
+use Rattle.dmr_pdu.specs.declared.pdu.Pdu.{Pdu}
+use Rattle.dmr_pdu.specs.declared.pdu.Pdu.TheVariants.{Ackd, Random, TvGrant}
 use Rattle.dmr_pdu.specs.Reasons.{not_supported, perm_user_refused, transient_sys_refused}
 use Rattle.dmr_pdu.specs.Reasons.{noreg_ms_away, sysbusy_refused, call_cancel_refused, reg_refused}
 use Rattle.dmr_pdu.specs.Reasons.{reg_denied, ms_not_registered, called_party_busy}
@@ -13,16 +16,19 @@ use Rattle.dmr_core.specs.declared.command.Command.TheVariants as command
 use Rattle.dmr_core.specs.declared.reply.Reply.{Reply}
 use Rattle.dmr_core.specs.declared.reply.Reply.TheVariants as reply
 use Rattle.dmr_core.specs.declared.event.Event.{Event}
-use Rattle.dmr_core.specs.declared.event.Event.TheVariants.{Up, Lost, Say}
+use Rattle.dmr_core.specs.declared.event.Event.TheVariants.{Up, Lost, Heard, Say}
 use Rattle.dmr_core.specs.declared.act.Act.{Act}
 use Rattle.dmr_core.specs.declared.act.Act.TheVariants.{Queue}
+use Rattle.dmr_core.specs.declared.act.Acts.{Acts}
 use Rattle.dmr_core.specs.declared.entry.Entry.{Entry}
+use Rattle.dmr_core.specs.Late.{carrier_on}
 use Rattle.dmr_keeper.specs.declared.notes.Outcome.{Outcome}
 use Rattle.dmr_keeper.specs.declared.notes.Outcome.TheVariants as outcome
 use Rattle.dmr_keeper.specs.declared.notes.Occurrence.{Occurrence}
-use Rattle.dmr_keeper.specs.declared.notes.Occurrence.TheVariants.{CameUp, WasLost, Refused}
-use Rattle.dmr_keeper.specs.declared.notes.Occurrence.TheVariants.{DropCommand, EndCommand}
-use Rattle.dmr_keeper.specs.declared.notes.Occurrence.TheVariants.{MoveCommand, StayCommand}
+use Rattle.dmr_keeper.specs.declared.notes.Occurrence.TheVariants.{CameUp, WasLost, JoinedCall}
+use Rattle.dmr_keeper.specs.declared.notes.Occurrence.TheVariants.{Refused, DropCommand}
+use Rattle.dmr_keeper.specs.declared.notes.Occurrence.TheVariants.{EndCommand, MoveCommand}
+use Rattle.dmr_keeper.specs.declared.notes.Occurrence.TheVariants.{StayCommand}
 use Rattle.dmr_keeper.specs.declared.notes.Note.{Note}
 use Rattle.dmr_keeper.specs.Ticks.{told_along}
 
@@ -53,12 +59,33 @@ abbrev pub occurrence_by_command : Command → Option Reply → Option Occurrenc
 occurrence_by_command c None = None
 occurrence_by_command c (Some r) = occurrence_by_outcome c (outcome_of r)
 
--- what an event and the reply to it are noted as
-abbrev pub occurrence_by_event : Event → Option Reply → Option Occurrence
-occurrence_by_event (Up carrier) said = Some (CameUp carrier)
-occurrence_by_event (Lost carrier) said = Some (WasLost carrier)
-occurrence_by_event (Say c) said = occurrence_by_command c said
-occurrence_by_event _ said = None
+-- the act queues the late grant of a talkgroup call: the call was under way, and the radio that is answered did not
+-- begin it. The first grant of a call, and the grant that is repeated to its source, are not late; the late entry of a
+-- Fill is not queued
+abbrev pub is_late_grant : Act → Bool
+is_late_grant (Queue slot (TvGrant channel number late group source)) = late
+is_late_grant _ = false
+
+-- what a radio's grant is noted as: it joined the call on the slot that the grant names, whose carrier is that of the
+-- channel
+abbrev pub occurrence_by_grant : Settings → ℕ → Act → Option Occurrence
+occurrence_by_grant plan radio (Queue slot (TvGrant channel number late group source)) =
+    option_map (λ (c : ℕ). JoinedCall radio group c number) (carrier_on plan channel)
+occurrence_by_grant plan radio _ = None
+
+-- what a request is noted as, if it is answered by a late grant: once, in however many copies that is queued
+abbrev pub occurrence_by_request : Settings → Pdu → List Act → Option Occurrence
+occurrence_by_request plan (Random options flags kind target source) acts =
+    option_and_then (occurrence_by_grant plan source) (find is_late_grant acts)
+occurrence_by_request plan _ acts = None
+
+-- what an event and the answer to it are noted as
+abbrev pub occurrence_by_event : Settings → Event → Acts → Option Occurrence
+occurrence_by_event plan (Up carrier) answer = Some (CameUp carrier)
+occurrence_by_event plan (Lost carrier) answer = Some (WasLost carrier)
+occurrence_by_event plan (Heard slot pdu) answer = occurrence_by_request plan pdu answer.list
+occurrence_by_event plan (Say c) answer = occurrence_by_command c answer.said
+occurrence_by_event plan _ answer = None
 
 -- the reasons of acknowledgements that refuse a request
 abbrev pub refusals : List ℕ
@@ -87,11 +114,11 @@ abbrev pub note_by_act : ℕ → Act → Option Note
 note_by_act tick act = note_if tick (occurrence_by_act act)
 
 -- the notes of an entry: that of its event, then those of its acts
-abbrev pub notes_in_entry : ℕ → Entry → List Note
-notes_in_entry tick entry =
-    option_to_list (note_if tick (occurrence_by_event entry.event entry.acts.said))
+abbrev pub notes_in_entry : Settings → ℕ → Entry → List Note
+notes_in_entry plan tick entry =
+    option_to_list (note_if tick (occurrence_by_event plan entry.event entry.acts))
     ++ filter_map (note_by_act tick) entry.acts.list
 
 -- the notes of a journal, from the ticks before it
-abbrev pub notes_in : ℕ → List Entry → List Note
-notes_in ticks journal = told_along notes_in_entry ticks journal
+abbrev pub notes_in : Settings → ℕ → List Entry → List Note
+notes_in plan ticks journal = told_along (notes_in_entry plan) ticks journal

@@ -4,6 +4,7 @@ ghost use Rattle.std.specs.Prelude.{◌≡◌, map};
 ghost use Rattle.dmr_keeper.specs.Calls.{begun_at, with_activity_on, one_tick_on};
 
 use crate::cause::EndCause;
+use crate::lines::{OpenLine, waited_at};
 use dmr_calls::{ActiveCall, Call};
 use dmr_pdu::Slot;
 
@@ -14,6 +15,8 @@ pub struct OpenCall {
     pub standing: ActiveCall,
     /// The tick at which it began, counted over all terms.
     pub began: u64,
+    /// How many ticks its request waited in line for a slot; 0 if it was given one at once.
+    pub waited: u64,
 }
 
 /// A call that ended.
@@ -25,14 +28,16 @@ pub struct EndedCall {
     pub began: u64,
     /// The tick at which it ended, counted over all terms.
     pub ended: u64,
+    /// How many ticks its request waited in line for a slot; 0 if it was given one at once.
+    pub waited: u64,
     /// Why it ended.
     pub cause: EndCause,
 }
 
 impl OpenCall {
-    /// The call when it begins at this tick.
-    pub(crate) fn begun(call: &Call, tick: u64) -> OpenCall
-        ensures { result ≡ begun_at tick call.now }
+    /// The call when it begins at this tick, in an entry before which these lines waited.
+    pub(crate) fn begun(call: &Call, tick: u64, lines: &[OpenLine]) -> OpenCall
+        ensures { result ≡ begun_at tick lines.now call.now }
     {
         OpenCall {
             standing: ActiveCall {
@@ -41,6 +46,7 @@ impl OpenCall {
                 quiet: 0,
             },
             began: tick,
+            waited: waited_at(tick, lines, &call.source),
         }
     }
 
@@ -55,6 +61,7 @@ impl OpenCall {
                 quiet: self.standing.quiet.saturating_add(1),
             },
             began: self.began,
+            waited: self.waited,
         }
     }
 
@@ -70,6 +77,7 @@ impl OpenCall {
                     quiet: 0,
                 },
                 began: self.began,
+                waited: self.waited,
             }
         } else {
             *self

@@ -4,7 +4,7 @@ ghost use Rattle.std.specs.Prelude.{◌≡◌, IfOk};
 ghost use Rattle.dmr_keeper.specs.Carried.{nothing_carried, starting_with};
 
 use crate::calls::OpenCall;
-use dmr_calls::Line;
+use crate::lines::OpenLine;
 use dmr_pdu::{Address, OutOfMemory};
 use std::alloc::Global;
 use std::marker::Model;
@@ -20,7 +20,7 @@ use std::marker::Model;
 pub struct Carried {
     pub(crate) ticks: u64,
     pub(crate) calls: Vec<OpenCall>,
-    pub(crate) lines: Vec<Line>,
+    pub(crate) lines: Vec<OpenLine>,
     pub(crate) registered: Vec<Address>,
 }
 
@@ -96,7 +96,7 @@ impl Carried {
     }
 
     /// The lines that wait, in the order in which they were added.
-    pub fn lines(&self) -> &[Line]
+    pub fn lines(&self) -> &[OpenLine]
         ensures { result.now ≡ self.now.lines }
     {
         self.lines.as_slice()

@@ -1,15 +1,14 @@
-//! The open calls by the entries of a journal, and the records of those that end.
+//! The open calls by an entry of a journal, and the records of those that end.
 
-ghost use Rattle.std.specs.Prelude.{◌≡◌, ◌+◌, ◌<◌, ◌^◌, ◌++◌, fold, filter, map, not, OnOk};
+ghost use Rattle.std.specs.Prelude.{◌≡◌, ◌++◌, fold, filter, map, not, OnOk};
 ghost use Rattle.dmr_keeper.specs.Calls.{ended_at as ended_call_at, ended_by_act, ended_by_acts};
-ghost use Rattle.dmr_keeper.specs.Calls.{ended_by_event, ended_in, ended_in_entry, open_after};
+ghost use Rattle.dmr_keeper.specs.Calls.{ended_by_event, ended_in_entry};
 ghost use Rattle.dmr_keeper.specs.Calls.{open_after_entry, open_by_act, open_by_event};
 ghost use Rattle.dmr_keeper.specs.Closing.{is_covered};
-ghost use Rattle.dmr_keeper.specs.Ticks.{ticks_in};
 
 use crate::calls::{EndedCall, OpenCall, count_tick, mark_active};
 use crate::cause::cause_of;
-use crate::ticks::tick_with;
+use crate::lines::OpenLine;
 use dmr_core::{Act, Entry, Event};
 use dmr_pdu::{CarrierNo, OutOfMemory, Slot};
 
@@ -42,6 +41,7 @@ fn ended_at(hang: u16, event: &Event, tick: u64, call: &OpenCall) -> EndedCall
         call: call.standing.call,
         began: call.began,
         ended: tick,
+        waited: call.waited,
         cause: cause_of(hang, event, &call.standing),
     }
 }
@@ -123,21 +123,22 @@ fn apply_event(
     Ok(())
 }
 
-/// Applies an act to the open calls, and adds the records of those that it ends.
+/// Applies an act to the open calls, and adds the records of those that it ends. `lines` waited before its entry.
 fn apply_act(
     hang: u16,
     event: &Event,
     tick: u64,
+    lines: &[OpenLine],
     act: &Act,
     calls: &mut Vec<OpenCall>,
     ended: &mut Vec<EndedCall>,
 ) -> Result<(), OutOfMemory>
-    ensures calls { OnOk result (calls.new.items ≡ open_by_act tick calls.old.items act.now) }
+    ensures calls { OnOk result (calls.new.items ≡ open_by_act tick lines.now calls.old.items act.now) }
     ensures ended { OnOk result (ended.new.items
         ≡ ended.old.items ++ ended_by_act hang event.now tick calls.old.items act.now) }
 {
     match act {
-        Act::Began(call) => calls.push(OpenCall::begun(call, tick))?,
+        Act::Began(call) => calls.push(OpenCall::begun(call, tick, lines))?,
         Act::Ended(slot) => end_calls(hang, event, tick, &Closing::OnSlot(*slot), calls, ended)?,
         Act::Queue(_, _)
         | Act::Send(_, _)
@@ -152,68 +153,50 @@ fn apply_act(
     Ok(())
 }
 
-/// Applies acts in their order.
+/// Applies acts in their order. `lines` waited before their entry.
 fn apply_acts(
     hang: u16,
     event: &Event,
     tick: u64,
+    lines: &[OpenLine],
     acts: &[Act],
     calls: &mut Vec<OpenCall>,
     ended: &mut Vec<EndedCall>,
 ) -> Result<(), OutOfMemory>
     ensures calls { OnOk result
-        (calls.new.items ≡ fold (open_by_act tick) calls.old.items acts.now) }
-    ensures ended { OnOk result (ended.new.items
-        ≡ ended.old.items ++ ended_by_acts hang event.now tick calls.old.items acts.now) }
+        (calls.new.items ≡ fold (open_by_act tick lines.now) calls.old.items acts.now) }
+    ensures ended { OnOk result (ended.new.items ≡ ended.old.items
+        ++ ended_by_acts hang event.now tick lines.now calls.old.items acts.now) }
 {
     for act in acts {
-        apply_act(hang, event, tick, act, calls, ended)?;
+        apply_act(hang, event, tick, lines, act, calls, ended)?;
     }
     Ok(())
 }
 
-/// Applies an entry, whose ticks with its event are `tick`.
-fn apply_entry(
+/// Applies an entry to the open calls, whose ticks with its event are `tick`, and adds the records of those that it
+/// ends. `lines` waited before it. On an error memory ran out, and both lists have the effect of some first acts.
+pub fn apply_to_calls(
     hang: u16,
     tick: u64,
+    lines: &[OpenLine],
     entry: &Entry,
     calls: &mut Vec<OpenCall>,
     ended: &mut Vec<EndedCall>,
 ) -> Result<(), OutOfMemory>
     ensures calls { OnOk result
-        (calls.new.items ≡ open_after_entry tick calls.old.items entry.now) }
-    ensures ended { OnOk result
-        (ended.new.items ≡ ended.old.items ++ ended_in_entry hang tick calls.old.items entry.now) }
+        (calls.new.items ≡ open_after_entry tick lines.now calls.old.items entry.now) }
+    ensures ended { OnOk result (ended.new.items ≡ ended.old.items
+        ++ ended_in_entry hang tick lines.now calls.old.items entry.now) }
 {
     apply_event(hang, &entry.event, tick, calls, ended)?;
     apply_acts(
         hang,
         &entry.event,
         tick,
+        lines,
         entry.acts.list.as_slice(),
         calls,
         ended,
     )
-}
-
-/// Applies the entries of a journal to the open calls, and adds the records of those that end. All ticks must fit in 64
-/// bits. On an error memory ran out, and both lists have the effect of some first acts.
-pub fn apply_to_calls(
-    hang: u16,
-    ticks: u64,
-    journal: &[Entry],
-    calls: &mut Vec<OpenCall>,
-    ended: &mut Vec<EndedCall>,
-) -> Result<(), OutOfMemory>
-    requires { ticks + ticks_in journal.now < 2 ^ 64 }
-    ensures calls { OnOk result (calls.new.items ≡ open_after ticks calls.old.items journal.now) }
-    ensures ended { OnOk result
-        (ended.new.items ≡ ended.old.items ++ ended_in hang ticks calls.old.items journal.now) }
-{
-    let mut tick = ticks;
-    for entry in journal {
-        tick = tick_with(tick, &entry.event);
-        apply_entry(hang, tick, entry, calls, ended)?;
-    }
-    Ok(())
 }

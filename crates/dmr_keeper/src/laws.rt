@@ -13,6 +13,7 @@ ghost use Rattle.dmr_core.specs.Rules.{acts_of};
 ghost use Rattle.dmr_core.specs.Sound.{IsSound};
 ghost use Rattle.dmr_keeper.specs.Calls.{begun_in};
 ghost use Rattle.dmr_keeper.specs.Carried.{Carry, carried_after, nothing_carried, starting_with};
+ghost use Rattle.dmr_keeper.specs.Carriers.{counts_of_both, counts_of_carrier};
 ghost use Rattle.dmr_keeper.specs.Changes.{changes_in};
 ghost use Rattle.dmr_keeper.specs.Counts.{counts_joined};
 ghost use Rattle.dmr_keeper.specs.Laws.{IsOfFacts, HaveAges, IsWithinLimits, MayEndCalls, is_end};
@@ -24,8 +25,9 @@ use dmr_core::facts_stay_sound;
 /// A term may end after any entry: the records are the same.
 ///
 /// The records of two journals, one after the other, are those of the first, followed by those of the second from what
-/// the first hands on. Their counts are added, but the most lines at once is the greater of the two. So a call that
-/// began in an earlier term is recorded once, with the tick at which it began.
+/// the first hands on. Their counts are added, also those of each carrier, but the most lines at once is the greater of
+/// the two. So a call that began in an earlier term is recorded once, with the tick at which it began and the ticks that
+/// its request waited.
 pub fn records_join()
     ensures calls { (plan : Settings) (before : Carry) (first second : List Entry)
         → ended_calls plan before (first ++ second) ≡ ended_calls plan before first
@@ -34,11 +36,14 @@ pub fn records_join()
         → changes_in before.ticks (first ++ second) ≡ changes_in before.ticks first
         ++ changes_in (carried_after plan before first).ticks second }
     ensures notes { (plan : Settings) (before : Carry) (first second : List Entry)
-        → notes_in before.ticks (first ++ second)
-        ≡ notes_in before.ticks first ++ notes_in (carried_after plan before first).ticks second }
+        → notes_in plan before.ticks (first ++ second) ≡ notes_in plan before.ticks first
+        ++ notes_in plan (carried_after plan before first).ticks second }
     ensures counts { (plan : Settings) (before : Carry) (first second : List Entry)
         → counts_in plan before (first ++ second) ≡ counts_joined (counts_in plan before first)
         (counts_in plan (carried_after plan before first) second) }
+    ensures carriers { (first second : List Entry) (carrier : ℕ)
+        → counts_of_carrier (first ++ second) carrier
+        ≡ counts_of_both (counts_of_carrier first carrier) (counts_of_carrier second carrier) }
     ensures after { (plan : Settings) (before : Carry) (first second : List Entry)
         → carried_after plan before (first ++ second)
         ≡ carried_after plan (carried_after plan before first) second }

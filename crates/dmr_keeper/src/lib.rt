@@ -2,13 +2,15 @@
 //!
 //! [`records_of`] reads the journal of a term, as an audited report has it, and returns the [`Records`] of that term:
 //!
-//! - each call that ended, with the ticks at which it began and ended and the [`EndCause`];
+//! - each call that ended, with the ticks at which it began and ended, how long its request waited for a slot, and the
+//!   [`EndCause`];
 //! - each [`Change`] of a registration;
-//! - each [`Note`]: a carrier that came up or was lost, a refused request, an operator's command that changes the site;
-//! - the [`TermCounts`].
+//! - each [`Note`]: a carrier that came up or was lost, a radio that joined a call, a refused request, an operator's
+//!   command that changes the site;
+//! - the [`TermCounts`], and the [`CarrierCounts`] of each carrier that had an entry.
 //!
-//! The calls that are open at the end of a term are [`Carried`] to the next one. So a call that began in an earlier
-//! term is recorded once, when it ends.
+//! The calls that are open at the end of a term, and the lines that wait then, are [`Carried`] to the next one. So a
+//! call that began in an earlier term is recorded once, when it ends, and a wait may begin in an earlier term too.
 //!
 //! Terms follow each other over one site, and ticks are counted over all of them. [`records_join`] says that a term may
 //! end after any entry. [`carried_is_the_sites`] says that the open calls, the lines and the registered radios are
@@ -24,6 +26,7 @@
 
 mod calls;
 mod carried;
+mod carriers;
 mod cause;
 mod changes;
 mod closing;
@@ -39,14 +42,17 @@ mod records;
 mod registered;
 mod ticks;
 mod time;
+mod walk;
 
 pub use calls::{EndedCall, OpenCall};
 pub use carried::Carried;
+pub use carriers::CarrierCounts;
 pub use cause::EndCause;
 pub use changes::{Change, ChangeKind};
 pub use counts::TermCounts;
 pub use keeper::{Forget, KeepFault, Keeper};
 pub use laws::{calls_are_counted_once, carried_is_the_sites, few_events_end_calls, records_join};
+pub use lines::OpenLine;
 pub use memory::InMemory;
 pub use notes::{Note, Occurrence, Outcome};
 pub use outbox::{MOST_WAITING, Outbox};

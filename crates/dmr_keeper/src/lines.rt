@@ -1,18 +1,43 @@
-//! The lines by the entries of a journal, and how many waited at once.
+//! The lines by the entries of a journal, each with the tick at which it was added.
 
-ghost use Rattle.std.specs.Prelude.{◌≡◌, fold, max, IfOk, OnOk};
-ghost use Rattle.dmr_calls.specs.Lines.{without_line};
-ghost use Rattle.dmr_core.specs.Facts.{lines_by_act, lines_by_event};
-ghost use Rattle.dmr_keeper.specs.Lines.{lines_after, lines_after_entry, most_waiting};
+ghost use Rattle.std.specs.Prelude.{◌≡◌, ◌==◌, filter, find, fold, not, OnOk};
+ghost use Rattle.dmr_keeper.specs.Lines.{lines_after_act, lines_after_entry, lines_after_event};
+ghost use Rattle.dmr_keeper.specs.Lines.{waited_at as ticks_of_line};
 
 use dmr_calls::Line;
 use dmr_core::{Act, Entry, Event};
 use dmr_pdu::{Address, OutOfMemory};
 use dmr_plan::Plan;
 
+/// A line that waits.
+#[derive(Clone, Copy, Debug, PartialEq, Eq)]
+pub struct OpenLine {
+    /// The line: a request for a call that waits for a free slot.
+    pub line: Line,
+    /// The tick at which it was added, counted over all terms.
+    pub since: u64,
+}
+
+/// The line of a radio.
+fn line_of(lines: &[OpenLine], radio: &Address) -> Option<OpenLine>
+    ensures { result ≡ find (λ l. l.line.source == radio.now) lines.now }
+{
+    lines.iter().copied().find(|l| l.line.source == *radio)
+}
+
+/// How many ticks the line of a radio has waited at this tick; 0 if the radio has no line.
+pub fn waited_at(tick: u64, lines: &[OpenLine], radio: &Address) -> u64
+    ensures { result ≡ ticks_of_line tick lines.now radio.now }
+{
+    match line_of(lines, radio) {
+        Some(l) => tick.saturating_sub(l.since),
+        None => 0,
+    }
+}
+
 /// Applies an event to the lines.
-fn apply_event(plan: &Plan, event: &Event, lines: &mut Vec<Line>)
-    ensures { lines.new.items ≡ lines_by_event plan.now lines.old.items event.now }
+fn apply_event(plan: &Plan, event: &Event, lines: &mut Vec<OpenLine>)
+    ensures { lines.new.items ≡ lines_after_event plan.now lines.old.items event.now }
 {
     match event {
         Event::Up(carrier) | Event::Lost(carrier) => {
@@ -29,19 +54,23 @@ fn apply_event(plan: &Plan, event: &Event, lines: &mut Vec<Line>)
     }
 }
 
-/// Removes the lines of a radio.
-fn remove_line(radio: &Address, lines: &mut Vec<Line>)
-    ensures { lines.new.items ≡ without_line radio.now lines.old.items }
+/// Removes the line of a radio.
+fn remove_line(radio: &Address, lines: &mut Vec<OpenLine>)
+    ensures { lines.new.items
+        ≡ filter (λ l. not (l.line.source == radio.now)) lines.old.items }
 {
-    lines.retain(|line| line.source != *radio);
+    lines.retain(|l| l.line.source != *radio);
 }
 
-/// Applies an act to the lines.
-fn apply_act(act: &Act, lines: &mut Vec<Line>) -> Result<(), OutOfMemory>
-    ensures { OnOk result (lines.new.items ≡ lines_by_act lines.old.items act.now) }
+/// Applies an act at this tick to the lines.
+fn apply_act(tick: u64, act: &Act, lines: &mut Vec<OpenLine>) -> Result<(), OutOfMemory>
+    ensures { OnOk result (lines.new.items ≡ lines_after_act tick lines.old.items act.now) }
 {
     match act {
-        Act::Lined(line) => lines.push(*line)?,
+        Act::Lined(line) => lines.push(OpenLine {
+            line: *line,
+            since: tick,
+        })?,
         Act::Unlined(radio) => remove_line(radio, lines),
         Act::Queue(_, _)
         | Act::Send(_, _)
@@ -56,39 +85,28 @@ fn apply_act(act: &Act, lines: &mut Vec<Line>) -> Result<(), OutOfMemory>
     Ok(())
 }
 
-/// Applies acts to the lines, in their order.
-fn apply_acts(acts: &[Act], lines: &mut Vec<Line>) -> Result<(), OutOfMemory>
-    ensures { OnOk result (lines.new.items ≡ fold lines_by_act lines.old.items acts.now) }
+/// Applies acts at this tick to the lines, in their order.
+fn apply_acts(tick: u64, acts: &[Act], lines: &mut Vec<OpenLine>) -> Result<(), OutOfMemory>
+    ensures { OnOk result
+        (lines.new.items ≡ fold (lines_after_act tick) lines.old.items acts.now) }
 {
     for act in acts {
-        apply_act(act, lines)?;
+        apply_act(tick, act, lines)?;
     }
     Ok(())
 }
 
-/// Applies an entry to the lines.
-fn apply_entry(plan: &Plan, entry: &Entry, lines: &mut Vec<Line>) -> Result<(), OutOfMemory>
-    ensures { OnOk result (lines.new.items ≡ lines_after_entry plan.now lines.old.items entry.now) }
-{
-    apply_event(plan, &entry.event, lines);
-    apply_acts(entry.acts.list.as_slice(), lines)
-}
-
-/// Applies the entries of a journal to the lines, and returns the most of them that waited at once: before the journal,
-/// or after one of its entries. On an error memory ran out, and the lines have the effect of some first acts.
+/// Applies an entry to the lines, whose ticks with its event are `tick`. On an error memory ran out, and the lines have
+/// the effect of some first acts.
 pub fn apply_to_lines(
     plan: &Plan,
-    journal: &[Entry],
-    lines: &mut Vec<Line>,
-) -> Result<usize, OutOfMemory>
-    ensures lines { OnOk result
-        (lines.new.items ≡ lines_after plan.now lines.old.items journal.now) }
-    ensures most { IfOk result (λ most. most ≡ most_waiting plan.now lines.old.items journal.now) }
+    tick: u64,
+    entry: &Entry,
+    lines: &mut Vec<OpenLine>,
+) -> Result<(), OutOfMemory>
+    ensures { OnOk result
+        (lines.new.items ≡ lines_after_entry plan.now tick lines.old.items entry.now) }
 {
-    let mut most = 0;
-    for entry in journal {
-        most = most.max(lines.len());
-        apply_entry(plan, entry, lines)?;
-    }
-    Ok(most.max(lines.len()))
+    apply_event(plan, &entry.event, lines);
+    apply_acts(tick, entry.acts.list.as_slice(), lines)
 }

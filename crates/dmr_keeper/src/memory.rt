@@ -5,6 +5,7 @@ ghost use Rattle.dmr_keeper.specs.declared.keeper.KeepFault.TheVariants.{OutOfMe
 ghost use Rattle.dmr_keeper.specs.Kept.{Keeps, kept_with, nothing_kept};
 
 use crate::calls::EndedCall;
+use crate::carriers::CarrierCounts;
 use crate::changes::Change;
 use crate::counts::TermCounts;
 use crate::keeper::{KeepFault, Keeper};
@@ -21,6 +22,7 @@ pub struct InMemory {
     changes: Vec<Change>,
     notes: Vec<Note>,
     counts: Vec<TermCounts>,
+    carriers: Vec<CarrierCounts>,
     times: Vec<TermTime>,
     registered: Vec<Address>,
 }
@@ -35,6 +37,7 @@ impl Model for InMemory {
       changes = store.changes.items;
       notes = store.notes.items;
       counts = store.counts.items;
+      carriers = store.carriers.items;
       times = store.times.items;
       registered = store.registered.items;
     } };
@@ -50,6 +53,7 @@ impl InMemory {
             changes: Vec::new(alloc),
             notes: Vec::new(alloc),
             counts: Vec::new(alloc),
+            carriers: Vec::new(alloc),
             times: Vec::new(alloc),
             registered: Vec::new(alloc),
         }
@@ -83,6 +87,13 @@ impl InMemory {
         self.counts.as_slice()
     }
 
+    /// The counts of carriers in each term, oldest term first. Of one term, they are by the carrier's number.
+    pub fn carriers(&self) -> &[CarrierCounts]
+        ensures { result.now ≡ self.now.carriers }
+    {
+        self.carriers.as_slice()
+    }
+
     /// The time of each term, oldest term first.
     pub fn times(&self) -> &[TermTime]
         ensures { result.now ≡ self.now.times }
@@ -106,6 +117,7 @@ impl InMemory {
         self.calls.reserve(records.calls.len())?;
         self.changes.reserve(records.changes.len())?;
         self.notes.reserve(records.notes.len())?;
+        self.carriers.reserve(records.carriers.len())?;
         self.registered.reserve(records.after.registered().len())?;
         self.times.reserve(1)?;
         self.counts.push(records.counts)?;
@@ -118,6 +130,9 @@ impl InMemory {
             .unwrap();
         self.notes
             .extend_from_slice(records.notes.as_slice())
+            .unwrap();
+        self.carriers
+            .extend_from_slice(records.carriers.as_slice())
             .unwrap();
         self.registered.clear();
         self.registered

@@ -1,16 +1,20 @@
-//! Notes: carriers that come up or are lost, refused requests, and operators' commands.
+//! Notes: carriers that come up or are lost, radios that join calls, refused requests, and operators' commands.
 
-ghost use Rattle.std.specs.Prelude.{◌≡◌, ◌+◌, ◌<◌, ◌^◌, ◌++◌, filter_map, IfOk, OnOk};
+ghost use Rattle.std.specs.Prelude.{◌≡◌, ◌+◌, ◌<◌, ◌^◌, ◌++◌, filter_map, find, IfOk, OnOk};
 ghost use Rattle.std.specs.Option.{option_to_list};
-ghost use Rattle.dmr_keeper.specs.Notes.{is_refusal as refuses, note_by_act, note_if, notes_in};
-ghost use Rattle.dmr_keeper.specs.Notes.{notes_in_entry, occurrence_by_act, occurrence_by_command};
-ghost use Rattle.dmr_keeper.specs.Notes.{occurrence_by_event, occurrence_of_command as commanded};
+ghost use Rattle.dmr_core.specs.Late.{carrier_on as carrier_by_channel};
+ghost use Rattle.dmr_keeper.specs.Notes.{is_late_grant as grants_late, is_refusal as refuses};
+ghost use Rattle.dmr_keeper.specs.Notes.{note_by_act, note_if, notes_in, notes_in_entry};
+ghost use Rattle.dmr_keeper.specs.Notes.{occurrence_by_act, occurrence_by_command};
+ghost use Rattle.dmr_keeper.specs.Notes.{occurrence_by_event, occurrence_by_grant};
+ghost use Rattle.dmr_keeper.specs.Notes.{occurrence_by_request, occurrence_of_command as commanded};
 ghost use Rattle.dmr_keeper.specs.Notes.{outcome_of as outcome_by_reply};
 ghost use Rattle.dmr_keeper.specs.Ticks.{ticks_in};
 
 use crate::ticks::tick_with;
-use dmr_core::{Act, Command, Entry, Event, Reply};
+use dmr_core::{Act, Acts, Command, Entry, Event, Reply};
 use dmr_pdu::{Address, CarrierNo, Lpcn, OutOfMemory, Pdu, Reason, SlotNo};
+use dmr_plan::Plan;
 use std::alloc::Global;
 
 /// The result of an operator's command that changes the site.
@@ -35,6 +39,18 @@ pub enum Occurrence {
     CameUp(CarrierNo),
     /// A carrier was lost.
     WasLost(CarrierNo),
+    /// A radio joined a talkgroup call that was under way and that another radio had begun: the site sent it there when
+    /// it asked for the talkgroup.
+    JoinedCall {
+        /// The radio that asked.
+        radio: Address,
+        /// The talkgroup.
+        target: Address,
+        /// The carrier of the call.
+        carrier: CarrierNo,
+        /// The slot of the carrier.
+        slot: SlotNo,
+    },
     /// A request was refused.
     Refused {
         /// The radio that is answered.
@@ -141,16 +157,77 @@ fn occurrence_of_say(command: &Command, said: &Option<Reply>) -> Option<Occurren
     occurrence_of_command(command, outcome)
 }
 
-/// What an event and the reply to it are noted as.
-fn occurrence_of_event(event: &Event, said: &Option<Reply>) -> Option<Occurrence>
-    ensures { result ≡ occurrence_by_event event.now said.now }
+/// Reports whether an act queues the late grant of a talkgroup call, which the radio that is answered joins.
+fn is_late_grant(act: &Act) -> bool
+    ensures { result ≡ grants_late act.now }
+{
+    match act {
+        Act::Queue(_, Pdu::TvGrant { late, .. }) => *late,
+        _ => false,
+    }
+}
+
+/// The first act that queues a late grant.
+fn late_grant_in(acts: &[Act]) -> Option<Act>
+    ensures { result ≡ find grants_late acts.now }
+{
+    acts.iter().copied().find(|act| is_late_grant(act))
+}
+
+/// The carrier that has a channel.
+fn carrier_on(plan: &Plan, channel: Lpcn) -> Option<CarrierNo>
+    ensures { result ≡ carrier_by_channel plan.now channel }
+{
+    let row = plan.carrier().iter().find(|row| row.lpcn == channel)?;
+    Some(row.number)
+}
+
+/// What a radio's grant is noted as. `None` if it is not one to a talkgroup, or the plan does not have its channel.
+fn occurrence_of_grant(plan: &Plan, radio: &Address, act: &Act) -> Option<Occurrence>
+    ensures { result ≡ occurrence_by_grant plan.now radio.now act.now }
+{
+    let Act::Queue(
+        _,
+        Pdu::TvGrant {
+            lpcn,
+            slot,
+            target,
+            ..
+        },
+    ) = act
+    else {
+        return None;
+    };
+    let carrier = carrier_on(plan, *lpcn)?;
+    Some(Occurrence::JoinedCall {
+        radio: *radio,
+        target: *target,
+        carrier,
+        slot: *slot,
+    })
+}
+
+/// What a PDU and the acts that answer it are noted as: a request joins a call if it is answered by a late grant.
+fn occurrence_of_request(plan: &Plan, pdu: &Pdu, acts: &[Act]) -> Option<Occurrence>
+    ensures { result ≡ occurrence_by_request plan.now pdu.now acts.now }
+{
+    let Pdu::Random { source, .. } = pdu else {
+        return None;
+    };
+    let grant = late_grant_in(acts)?;
+    occurrence_of_grant(plan, source, &grant)
+}
+
+/// What an event and the answer to it are noted as.
+fn occurrence_of_event(plan: &Plan, event: &Event, answer: &Acts) -> Option<Occurrence>
+    ensures { result ≡ occurrence_by_event plan.now event.now answer.now }
 {
     match event {
         Event::Up(carrier) => Some(Occurrence::CameUp(*carrier)),
         Event::Lost(carrier) => Some(Occurrence::WasLost(*carrier)),
-        Event::Say(command) => occurrence_of_say(command, said),
-        Event::Heard(_, _) | Event::Noise(_) | Event::Active(_) | Event::Poll(_) | Event::Tick =>
-            None,
+        Event::Heard(_, pdu) => occurrence_of_request(plan, pdu, answer.list.as_slice()),
+        Event::Say(command) => occurrence_of_say(command, &answer.said),
+        Event::Noise(_) | Event::Active(_) | Event::Poll(_) | Event::Tick => None,
     }
 }
 
@@ -228,25 +305,36 @@ fn add_notes_of_acts(tick: u64, acts: &[Act], notes: &mut Vec<Note>) -> Result<(
 }
 
 /// Adds the notes of an entry.
-fn add_notes(tick: u64, entry: &Entry, notes: &mut Vec<Note>) -> Result<(), OutOfMemory>
-    ensures { OnOk result (notes.new.items ≡ notes.old.items ++ notes_in_entry tick entry.now) }
+fn add_notes(
+    plan: &Plan,
+    tick: u64,
+    entry: &Entry,
+    notes: &mut Vec<Note>,
+) -> Result<(), OutOfMemory>
+    ensures { OnOk result
+        (notes.new.items ≡ notes.old.items ++ notes_in_entry plan.now tick entry.now) }
 {
-    let what = occurrence_of_event(&entry.event, &entry.acts.said);
+    let what = occurrence_of_event(plan, &entry.event, &entry.acts);
     add_note(tick, what, notes)?;
     add_notes_of_acts(tick, entry.acts.list.as_slice(), notes)
 }
 
 /// The notes of a journal, oldest first. `ticks` are those before it; with those of the journal they must fit in 64
 /// bits. On an error memory ran out.
-pub fn notes_of(alloc: Global, ticks: u64, journal: &[Entry]) -> Result<Vec<Note>, OutOfMemory>
+pub fn notes_of(
+    alloc: Global,
+    plan: &Plan,
+    ticks: u64,
+    journal: &[Entry],
+) -> Result<Vec<Note>, OutOfMemory>
     requires { ticks + ticks_in journal.now < 2 ^ 64 }
-    ensures { IfOk result (λ notes. notes.items ≡ notes_in ticks journal.now) }
+    ensures { IfOk result (λ notes. notes.items ≡ notes_in plan.now ticks journal.now) }
 {
     let mut notes = Vec::new(alloc);
     let mut tick = ticks;
     for entry in journal {
         tick = tick_with(tick, &entry.event);
-        add_notes(tick, entry, &mut notes)?;
+        add_notes(plan, tick, entry, &mut notes)?;
     }
     Ok(notes)
 }

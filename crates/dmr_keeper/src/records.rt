@@ -10,12 +10,12 @@ ghost use Rattle.dmr_keeper.specs.Ticks.{ticks_in};
 
 use crate::calls::EndedCall;
 use crate::carried::Carried;
+use crate::carriers::{CarrierCounts, counts_of_carriers};
 use crate::changes::{Change, changes_of};
-use crate::closing::apply_to_calls;
 use crate::counts::{TermCounts, count_ticks, counts_of};
-use crate::lines::apply_to_lines;
 use crate::notes::{Note, notes_of};
 use crate::registered::apply_to_registered;
+use crate::walk::apply_journal;
 use dmr_core::Entry;
 use dmr_pdu::OutOfMemory;
 use dmr_plan::Plan;
@@ -34,6 +34,8 @@ pub struct Records {
     pub notes: Vec<Note>,
     /// The counts of the term.
     pub counts: TermCounts,
+    /// The counts of each carrier of which the journal has an entry, lowest number first.
+    pub carriers: Vec<CarrierCounts>,
     /// What is handed on to the next term: also the registered radios in the order of joining, and the calls that are
     /// open.
     pub after: Carried,
@@ -74,17 +76,18 @@ fn read_records(
     let mut lines = Vec::from_slice(alloc, before.lines())?;
     let mut registered = Vec::from_slice(alloc, before.registered())?;
     let mut ended = Vec::new(alloc);
-    apply_to_calls(plan.hang(), ticks, journal, &mut calls, &mut ended)?;
-    let most_lines = apply_to_lines(plan, journal, &mut lines)?;
+    let most_lines = apply_journal(plan, ticks, journal, &mut lines, &mut calls, &mut ended)?;
     apply_to_registered(journal, &mut registered)?;
     let changes = changes_of(alloc, ticks, journal)?;
-    let notes = notes_of(alloc, ticks, journal)?;
+    let notes = notes_of(alloc, plan, ticks, journal)?;
+    let carriers = counts_of_carriers(alloc, journal)?;
     let counts = counts_of(journal, ended.len(), most_lines);
     Ok(Records {
         calls: ended,
         changes,
         notes,
         counts,
+        carriers,
         after: Carried {
             ticks: after,
             calls,

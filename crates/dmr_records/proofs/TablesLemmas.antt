@@ -1,5 +1,5 @@
 -- The tables: what a transaction finds, and transactions one after another.
-use Rattle.std.proofs.Common.{◌≡◌, ℤ, Option, None, Result, Ok, Err, IfErr, IfOk, arith, subst}
+use Rattle.std.proofs.Common.{◌≡◌, ℕ, ℤ, pos, List, Option, None, Some, refl, Result, Ok, Err, IfErr, IfOk, arith, subst}
 use Rattle.sqlite.specs.Store.{Ghosts}
 use Rattle.sqlite.specs.declared.error.Error.{Error}
 use Rattle.sqlite.specs.State.{HasCleanDisk, IsRolledBack, Survives}
@@ -8,7 +8,7 @@ use Rattle.sqlite.specs.Held.{Held, state}
 use Rattle.sqlite.proofs.StateLemmas.{survives_then}
 use Rattle.sqlite.proofs.Callers.{survives_begin}
 use Rattle.dmr_records.specs.Ran.{begun, Looks}
-use Rattle.dmr_records.specs.Tables.{tables, MayLeaveTables, MayPrepare, FindsVersion, FindsNoVersion, HasVersion, HasNoVersion}
+use Rattle.dmr_records.specs.Tables.{carry_over, tables, MayLeaveTables, MayPrepare, FindsVersion, FindsNoVersion, HasVersion, HasNoVersion, Needs}
 use Rattle.dmr_records.proofs.QueryLemmas.{early, has_committed}
 
 -- what was read in a transaction that was then rolled back
@@ -29,16 +29,24 @@ module _ {S : Type 0} (g : Ghosts S) (old begin last new : Held S) (begins : beg
       (last, subst (λ (h : Held S). FindsNoVersion g h last e) begins (failed (early g old begin last new begins looks undone survives clean)), record { undone = undone clean; survives = survives })
 
 -- what a crash may leave of a transaction that makes the tables
-pub may_leave_tables : {S : Type 0} (g : Ghosts S) (old begin last new : Held S) → begin ≡ begun old → (HasCleanDisk (state g last) → ExecutesAllInside g 0 tables begin last (Ok tt)) → Survives (state g begin) (state g last) (λ _. ⊥)
-    → Survives (state g last) (state g new) (λ db. db ≡ (state g last).now.trees) → Survives (state g old) (state g new) (MayLeaveTables g old)
-may_leave_tables {S} g old begin last new begins ran survives committed =
-    survives_then (state g old) (state g last) (state g new) (λ _. ⊥) (λ db. db ≡ (state g last).now.trees) (MayLeaveTables g old) (λ _ db none. absurd none)
-    (λ clean db trees. (last, subst (λ (h : Held S). ExecutesAllInside g 0 tables h last (Ok tt)) begins (ran (omega (arith, committed.clean))), trees))
+pub may_leave_tables : {S : Type 0} (g : Ghosts S) (text : List ℕ) (old begin last new : Held S) → begin ≡ begun old → (HasCleanDisk (state g last) → ExecutesAllInside g 0 text begin last (Ok tt)) → Survives (state g begin) (state g last) (λ _. ⊥)
+    → Survives (state g last) (state g new) (λ db. db ≡ (state g last).now.trees) → Survives (state g old) (state g new) (MayLeaveTables g text old)
+may_leave_tables {S} g text old begin last new begins ran survives committed =
+    survives_then (state g old) (state g last) (state g new) (λ _. ⊥) (λ db. db ≡ (state g last).now.trees) (MayLeaveTables g text old) (λ _ db none. absurd none)
+    (λ clean db trees. (last, subst (λ (h : Held S). ExecutesAllInside g 0 text h last (Ok tt)) begins (ran (omega (arith, committed.clean))), trees))
     (survives_begin g old (state g last) (λ _. ⊥) (subst (λ (h : Held S). Survives (state g h) (state g last) (λ _. ⊥)) begins survives)) committed
 
--- and of a database that had none
-pub may_prepare : {S : Type 0} (g : Ghosts S) (old empty new : Held S) → (HasCleanDisk (state g empty) → HasVersion g old empty None) → Survives (state g old) (state g empty) (λ _. ⊥) → Survives (state g empty) (state g new) (MayLeaveTables g empty)
+-- and of a database that needs these statements
+pub may_prepare : {S : Type 0} (g : Ghosts S) (text : List ℕ) (old found new : Held S) → (HasCleanDisk (state g found) → Needs g old found text) → Survives (state g old) (state g found) (λ _. ⊥) → Survives (state g found) (state g new) (MayLeaveTables g text found)
     → Survives (state g old) (state g new) (MayPrepare g old)
-may_prepare g old empty new none first second =
-    survives_then (state g old) (state g empty) (state g new) (λ _. ⊥) (MayLeaveTables g empty) (MayPrepare g old) (λ _ db no. absurd no)
-    (λ clean db may. (empty, none (omega (arith, second.clean)), may)) first second
+may_prepare g text old found new needs first second =
+    survives_then (state g old) (state g found) (state g new) (λ _. ⊥) (MayLeaveTables g text found) (MayPrepare g old) (λ _ db no. absurd no)
+    (λ clean db may. (found, text, needs (omega (arith, second.clean)), may)) first second
+
+-- a database that has no table needs the statements that make them
+pub none_needs : {S : Type 0} (g : Ghosts S) (old found : Held S) → HasVersion g old found None → Needs g old found tables
+none_needs g old found none = record { version = None; has = none; statements = refl }
+
+-- and tables of version 1 need those that carry them over
+pub before_needs : {S : Type 0} (g : Ghosts S) (old found : Held S) (version : ℤ) → HasVersion g old found (Some version) → version ≡ pos 1 → Needs g old found carry_over
+before_needs g old found version has is = record { version = Some version; has = has; statements = (is, refl) }

@@ -33,11 +33,18 @@ kind_of_change change.Dropped = kind.Dropped
 abbrev pub event_of_change : Change → EventRow
 event_of_change c = record (bare c.tick (kind_of_change c.kind)) { radio = Some c.radio }
 
--- what happened: of a refusal the radio that asked, what it asked about and the reason; of a command what it names, and
--- its result
+-- what happened: of a call that a radio joined, the radio, the talkgroup and the slot; of a refusal the radio that asked,
+-- what it asked about and the reason; of a command what it names, and its result
 abbrev pub event_of : ℕ → Occurrence → EventRow
 event_of tick (what.CameUp carrier) = record (bare tick kind.CameUp) { carrier = Some carrier }
 event_of tick (what.WasLost carrier) = record (bare tick kind.WasLost) { carrier = Some carrier }
+event_of tick (what.JoinedCall radio target carrier slot) =
+    record (bare tick kind.JoinedCall) {
+      carrier = Some carrier;
+      slot = Some slot;
+      radio = Some radio;
+      target = Some target;
+    }
 event_of tick (what.Refused source target reason) =
     record (bare tick kind.Refused) { radio = Some source; target = Some target; reason = Some reason }
 event_of tick (what.DropCommand radio outcome) =

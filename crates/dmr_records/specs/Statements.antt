@@ -6,6 +6,7 @@ use Rattle.sqlite.specs.Values.{or_null}
 use Rattle.sqlite.specs.declared.types.Value.{Value}
 use Rattle.sqlite.specs.declared.types.Value.TheVariants.{Int, Text as Words}
 use Rattle.dmr_keeper.specs.declared.calls.EndedCall.{EndedCall}
+use Rattle.dmr_keeper.specs.declared.carriers.CarrierCounts.{CarrierCounts}
 use Rattle.dmr_keeper.specs.declared.changes.Change.{Change}
 use Rattle.dmr_keeper.specs.declared.counts.TermCounts.{TermCounts}
 use Rattle.dmr_keeper.specs.declared.notes.Note.{Note}
@@ -71,11 +72,12 @@ abbrev pub put_call : TermRow → EndedCall → Statement
 put_call term c = record {
   text =
       codes
-      "INSERT INTO calls (term, carrier, slot, is_group, source, target, began, began_ms, ended, ended_ms, cause) VALUES (?1, ?2, ?3, ?4, ?5, ?6, ?7, ?8, ?9, ?10, ?11)";
+      "INSERT INTO calls (term, carrier, slot, is_group, source, target, began, began_ms, ended, ended_ms, cause, waited) VALUES (?1, ?2, ?3, ?4, ?5, ?6, ?7, ?8, ?9, ?10, ?11, ?12)";
   params =
       count term.number ∷ number c.call.slot.carrier ∷ number c.call.slot.slot ∷ flag c.call.group
       ∷ number c.call.source ∷ number c.call.target ∷ count c.began ∷ time_in term c.began
-      ∷ count c.ended ∷ time_in term c.ended ∷ Words (cause_word c.cause) ∷ [];
+      ∷ count c.ended ∷ time_in term c.ended ∷ Words (cause_word c.cause)
+      ∷ count c.waited ∷ [];
 }
 
 -- the row of an event in the term with this row
@@ -89,6 +91,17 @@ put_event term e = record {
       ∷ or_null number e.carrier ∷ or_null number e.slot ∷ or_null number e.radio ∷ or_null number e.target
       ∷ or_null number e.channel ∷ or_null number e.reason
       ∷ or_null (λ o. Words (outcome_word o)) e.reply ∷ [];
+}
+
+-- the row of the counts of a carrier in the term with this row
+abbrev pub put_carrier : TermRow → CarrierCounts → Statement
+put_carrier term c = record {
+  text =
+      codes
+      "INSERT INTO carriers (term, carrier, polls, heard, noise, active) VALUES (?1, ?2, ?3, ?4, ?5, ?6)";
+  params =
+      count term.number ∷ number c.carrier ∷ count c.polls ∷ count c.heard ∷ count c.noise
+      ∷ count c.active ∷ [];
 }
 
 -- the radio at a place. A row that has this radio already is not written
@@ -141,9 +154,16 @@ prune_terms = record {
   params = [];
 }
 
--- of each table, only this number of the newest rows stays
+-- those of carriers have the numbers of their terms
+abbrev pub prune_carriers : Statement
+prune_carriers = record {
+  text = codes "DELETE FROM carriers WHERE term <= (SELECT terms FROM removed)";
+  params = [];
+}
+
+-- of calls, events and terms, only this number of the newest rows stays, and of carriers those of the terms that stay
 abbrev pub prune : ℕ → List Statement
-prune most = mark_removed most ∷ prune_calls ∷ prune_events ∷ prune_terms ∷ []
+prune most = mark_removed most ∷ prune_calls ∷ prune_events ∷ prune_terms ∷ prune_carriers ∷ []
 
 -- the oldest rows are removed after some terms alone, since that takes long: a table has at most a thousandth more
 -- rows, in terms. If few rows stay, it is after each term
@@ -162,6 +182,10 @@ put_changes term changes = map (λ (c : Change). put_event term (event_of_change
 abbrev pub put_notes : TermRow → List Note → List Statement
 put_notes term notes = map (λ (n : Note). put_event term (event_of_note n)) notes
 
+-- the counts of carriers, in their order
+abbrev pub put_carriers : TermRow → List CarrierCounts → List Statement
+put_carriers term carriers = map (put_carrier term) carriers
+
 -- the registered radios from the first place on, and nothing after them
 abbrev pub put_radios : List ℕ → List Statement
 put_radios radios = put_registrations 1 radios ++ cut_registrations (length radios) ∷ []
@@ -171,4 +195,6 @@ abbrev pub put_rest : ℕ → TermRow → Records → List Statement
 put_rest most term records =
     put_calls term records.calls.items
     ++ (put_changes term records.changes.items
-    ++ (put_notes term records.notes.items ++ (put_radios records.after.registered ++ prune_after most term.number)))
+    ++ (put_notes term records.notes.items
+    ++ (put_carriers term records.carriers.items
+    ++ (put_radios records.after.registered ++ prune_after most term.number))))

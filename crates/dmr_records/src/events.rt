@@ -20,6 +20,8 @@ pub enum EventKind {
     CameUp,
     /// A carrier was lost.
     WasLost,
+    /// A radio joined a call that was under way.
+    JoinedCall,
     /// A request was refused.
     Refused,
     /// An operator sent `drop`.
@@ -45,7 +47,7 @@ pub struct EventRow {
     pub slot: Option<u32>,
     /// The number of the radio.
     pub radio: Option<u32>,
-    /// The address that a refused request was about.
+    /// The talkgroup of the call that was joined, or the address that a refused request was about.
     pub target: Option<u32>,
     /// The number of the channel to which the control channel is moved.
     pub channel: Option<u32>,
@@ -106,6 +108,19 @@ pub fn event_of_note(note: &Note) -> EventRow
         Occurrence::WasLost(carrier) => {
             let mut event = bare(tick, EventKind::WasLost);
             event.carrier = Some(carrier.get());
+            event
+        }
+        Occurrence::JoinedCall {
+            radio,
+            target,
+            carrier,
+            slot,
+        } => {
+            let mut event = bare(tick, EventKind::JoinedCall);
+            event.carrier = Some(carrier.get());
+            event.slot = Some(slot.get());
+            event.radio = Some(radio.get());
+            event.target = Some(target.get());
             event
         }
         Occurrence::Refused {

@@ -9,7 +9,7 @@ use sqlite::{Error, ErrorCode};
 use thiserror::Error;
 
 /// Why a file of records cannot be used. After any of them, the file has the records that it had before, as far as the
-/// disk returns what was written. Tables may have been made.
+/// disk returns what was written. Tables may have been made, or carried over.
 #[derive(Clone, Copy, Debug, PartialEq, Eq, Error)]
 pub enum FileFault {
     /// Memory ran out.

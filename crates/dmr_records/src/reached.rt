@@ -58,7 +58,8 @@ fn prepare_and_read<S: Alter>(
     read_radios(alloc, conn)
 }
 
-/// Opens the database, makes its tables if it has none, writes the records of a term in one transaction, and closes it.
+/// Opens the database, prepares its tables ([`prepare_tables`]), writes the records of a term in one transaction, and
+/// closes it.
 ///
 /// Of each table of calls, events and terms, the newest `most` rows stay. Older rows are removed only if the number of
 /// the term's row is a multiple of `most / 1000 + 1`. Until then they stay too.
@@ -82,8 +83,8 @@ pub fn keep_term<S: Alter, D: Reach<Connection<S>>>(
     written
 }
 
-/// Opens the database, makes its tables if it has none, reads the registered radios, and closes it. The radios are in
-/// the order in which they joined. If there are more than the 4,096 that a site may have, it reads 4,097.
+/// Opens the database, prepares its tables ([`prepare_tables`]), reads the registered radios, and closes it. The radios
+/// are in the order in which they joined. If there are more than the 4,096 that a site may have, it reads 4,097.
 ///
 /// # Errors
 ///

@@ -9,9 +9,11 @@ ghost use Rattle.dmr_records.specs.Ran.{Keeps, RanAll};
 ghost use Rattle.dmr_records.specs.Statements.{cut_registrations as statement_of_cut};
 ghost use Rattle.dmr_records.specs.Statements.{mark_removed as statement_of_mark};
 ghost use Rattle.dmr_records.specs.Statements.{prune_calls as statement_of_calls};
+ghost use Rattle.dmr_records.specs.Statements.{prune_carriers as statement_of_carriers};
 ghost use Rattle.dmr_records.specs.Statements.{prune_events as statement_of_events};
 ghost use Rattle.dmr_records.specs.Statements.{prune_terms as statement_of_terms};
 ghost use Rattle.dmr_records.specs.Statements.{put_call as statement_of_call};
+ghost use Rattle.dmr_records.specs.Statements.{put_carrier as statement_of_carrier};
 ghost use Rattle.dmr_records.specs.Statements.{put_event as statement_of_event};
 ghost use Rattle.dmr_records.specs.Statements.{put_registration as statement_of_registration};
 ghost use Rattle.dmr_records.specs.Statements.{put_term as statement_of_term};
@@ -20,7 +22,7 @@ use crate::events::EventRow;
 use crate::term_row::TermRow;
 use crate::values::{count, flag, number, number_or_null, outcome_or_null, size, word};
 use crate::words::{cause_word, kind_word};
-use dmr_keeper::{EndedCall, TermCounts, TermTime};
+use dmr_keeper::{CarrierCounts, EndedCall, TermCounts, TermTime};
 use dmr_pdu::Address;
 use sqlite::types::ValueRef;
 use sqlite::{Alter, Error, Transaction};
@@ -32,11 +34,14 @@ const PUT_TERM: &str =
 
 const PUT_CALL: &str =
     "INSERT INTO calls (term, carrier, slot, is_group, source, target, began, began_ms, ended, \
-    ended_ms, cause) VALUES (?1, ?2, ?3, ?4, ?5, ?6, ?7, ?8, ?9, ?10, ?11)";
+    ended_ms, cause, waited) VALUES (?1, ?2, ?3, ?4, ?5, ?6, ?7, ?8, ?9, ?10, ?11, ?12)";
 
 const PUT_EVENT: &str = "INSERT INTO events \
     (term, tick, at_ms, kind, carrier, slot, radio, target, channel, reason, reply) \
     VALUES (?1, ?2, ?3, ?4, ?5, ?6, ?7, ?8, ?9, ?10, ?11)";
+
+const PUT_CARRIER: &str = "INSERT INTO carriers (term, carrier, polls, heard, noise, active) \
+    VALUES (?1, ?2, ?3, ?4, ?5, ?6)";
 
 const PUT_REGISTRATION: &str = "INSERT INTO registrations (place, radio) VALUES (?1, ?2) \
     ON CONFLICT (place) DO UPDATE SET radio = excluded.radio WHERE radio <> excluded.radio";
@@ -52,6 +57,8 @@ const PRUNE_CALLS: &str = "DELETE FROM calls WHERE number <= (SELECT calls FROM 
 const PRUNE_EVENTS: &str = "DELETE FROM events WHERE number <= (SELECT events FROM removed)";
 
 const PRUNE_TERMS: &str = "DELETE FROM terms WHERE number <= (SELECT terms FROM removed)";
+
+const PRUNE_CARRIERS: &str = "DELETE FROM carriers WHERE term <= (SELECT terms FROM removed)";
 
 /// Runs a statement, and does not say how many rows it changed.
 fn run<S: Alter>(
@@ -135,6 +142,7 @@ pub fn put_call<S: Alter>(
             count(call.ended),
             count(term.time_of(call.ended)),
             word(cause_word(&call.cause)),
+            count(call.waited),
         ],
     )
 }
@@ -165,6 +173,31 @@ pub fn put_event<S: Alter>(
             number_or_null(event.channel),
             number_or_null(event.reason),
             outcome_or_null(event.reply),
+        ],
+    )
+}
+
+/// Writes the row of the counts of a carrier in the term with this row.
+pub fn put_carrier<S: Alter>(
+    tx: &mut Transaction<'_, S>,
+    term: TermRow,
+    counts: &CarrierCounts,
+) -> Result<(), Error>
+    ensures same_reference { tx.new.conn.ghost_name ≡ tx.old.conn.ghost_name }
+    ensures ran { RanAll S.Store (statement_of_carrier term counts.now ∷ [])
+        tx.old.conn.now tx.new.conn.now result }
+    ensures keeps { Keeps S.Store tx.old.conn.now tx.new.conn.now }
+{
+    run(
+        tx,
+        PUT_CARRIER,
+        &[
+            count(term.number),
+            number(counts.carrier.get()),
+            size(counts.polls),
+            size(counts.heard),
+            size(counts.noise),
+            size(counts.active),
         ],
     )
 }
@@ -231,4 +264,14 @@ pub fn prune_terms<S: Alter>(tx: &mut Transaction<'_, S>) -> Result<(), Error>
     ensures keeps { Keeps S.Store tx.old.conn.now tx.new.conn.now }
 {
     run(tx, PRUNE_TERMS, &[])
+}
+
+/// Removes the counts of carriers in terms up to the noted number.
+pub fn prune_carriers<S: Alter>(tx: &mut Transaction<'_, S>) -> Result<(), Error>
+    ensures same_reference { tx.new.conn.ghost_name ≡ tx.old.conn.ghost_name }
+    ensures ran { RanAll S.Store (statement_of_carriers ∷ [])
+        tx.old.conn.now tx.new.conn.now result }
+    ensures keeps { Keeps S.Store tx.old.conn.now tx.new.conn.now }
+{
+    run(tx, PRUNE_CARRIERS, &[])
 }

@@ -49,12 +49,12 @@ impl<S, D> RecordsIn<S, D> {
 
 impl<S: Alter, D: Reach<Connection<S>>> RecordsIn<S, D> {
     /// Reads the registered radios, in the order in which they joined; 4,097 if there are more than the 4,096 that a
-    /// site may have. If the database has no tables, it makes them first.
+    /// site may have. It prepares the tables first: if the database has none, they are made.
     ///
     /// # Errors
     ///
     /// Each [`FileFault`] says what is wrong with the database. It then has the records that it had before; its tables
-    /// may have been made.
+    /// may have been made, or carried over.
     pub fn registered(&mut self, alloc: Global) -> Result<Vec<Address>, FileFault>
         ensures read { IfOk result (λ radios. AreReadBack S.Store D.opens D.closes radios.items
             self.old.reach self.new.reach) }

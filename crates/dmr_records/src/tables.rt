@@ -1,6 +1,6 @@
 //! The tables, and their version.
 
-ghost use Rattle.std.specs.Prelude.{◌≡◌, false, pos, IfErr, IfOk, IsTrue, OnErr, OnOk};
+ghost use Rattle.std.specs.Prelude.{◌≡◌, ◌≢◌, false, pos, IfErr, IfOk, IsTrue, OnErr, OnOk};
 ghost use Rattle.sqlite.specs.Held.{state};
 ghost use Rattle.sqlite.specs.State.{HasCleanDisk, KeepsCommit, Survives};
 ghost use Rattle.dmr_records.specs.Ran.{Looks};
@@ -8,18 +8,23 @@ ghost use Rattle.dmr_records.specs.Tables.{AreMade, AreNotPrepared, ArePrepared,
 ghost use Rattle.dmr_records.specs.Tables.{FindsNoVersion, FindsVersion, HasNoVersion, HasVersion};
 ghost use Rattle.dmr_records.specs.Tables.{IsOtherVersion, MayLeaveTables, MayPrepare};
 ghost use Rattle.dmr_records.specs.Tables.{ShowsNoNumber, ShowsNumber};
+ghost use Rattle.dmr_records.specs.Tables.{carry_over as statements_of_carrying};
+ghost use Rattle.dmr_records.specs.Tables.{tables as statements_of_tables};
 
 use crate::fault::{FileFault, fault_of};
 use sqlite::{Alter, Connection, Error, Transaction};
 
 /// The version of the tables that this crate makes and reads.
-pub const VERSION: i64 = 1;
+pub const VERSION: i64 = 2;
+
+/// The version of the tables that it carries over.
+const VERSION_BEFORE: i64 = 1;
 
 const COUNT_TABLES: &str = "SELECT count(*) FROM sqlite_schema";
 
 const SELECT_VERSION: &str = "SELECT max(version) FROM schema_version";
 
-/// The tables of version 1. `docs/RECORDS.md` describes them.
+/// The tables of version 2. `docs/RECORDS.md` describes them.
 const TABLES: &str = "\
     CREATE TABLE schema_version (version INTEGER PRIMARY KEY) STRICT;\
     CREATE TABLE terms (\
@@ -54,7 +59,8 @@ const TABLES: &str = "\
     began_ms INTEGER NOT NULL, \
     ended INTEGER NOT NULL, \
     ended_ms INTEGER NOT NULL, \
-    cause TEXT NOT NULL) STRICT;\
+    cause TEXT NOT NULL, \
+    waited INTEGER) STRICT;\
     CREATE TABLE events (\
     number INTEGER PRIMARY KEY, \
     term INTEGER NOT NULL, \
@@ -68,12 +74,69 @@ const TABLES: &str = "\
     channel INTEGER, \
     reason INTEGER, \
     reply TEXT) STRICT;\
+    CREATE TABLE carriers (\
+    term INTEGER NOT NULL, \
+    carrier INTEGER NOT NULL, \
+    polls INTEGER NOT NULL, \
+    heard INTEGER NOT NULL, \
+    noise INTEGER NOT NULL, \
+    active INTEGER NOT NULL, \
+    PRIMARY KEY (term, carrier)) STRICT;\
     CREATE TABLE registrations (\
     place INTEGER PRIMARY KEY, \
     radio INTEGER NOT NULL) STRICT;\
     CREATE TABLE removed (calls INTEGER, events INTEGER, terms INTEGER) STRICT;\
     INSERT INTO removed (calls, events, terms) VALUES (0, 0, 0);\
-    INSERT INTO schema_version (version) VALUES (1)";
+    INSERT INTO schema_version (version) VALUES (2)";
+
+/// The tables of version 2 from those of version 1. No table can be given a column, so the rows of the calls are copied.
+const CARRY_OVER: &str = "\
+    CREATE TABLE calls_before (\
+    number INTEGER PRIMARY KEY, \
+    term INTEGER NOT NULL, \
+    carrier INTEGER NOT NULL, \
+    slot INTEGER NOT NULL, \
+    is_group INTEGER NOT NULL, \
+    source INTEGER NOT NULL, \
+    target INTEGER NOT NULL, \
+    began INTEGER NOT NULL, \
+    began_ms INTEGER NOT NULL, \
+    ended INTEGER NOT NULL, \
+    ended_ms INTEGER NOT NULL, \
+    cause TEXT NOT NULL) STRICT;\
+    INSERT INTO calls_before (number, term, carrier, slot, is_group, source, target, \
+    began, began_ms, ended, ended_ms, cause) \
+    SELECT number, term, carrier, slot, is_group, source, target, \
+    began, began_ms, ended, ended_ms, cause FROM calls;\
+    DROP TABLE calls;\
+    CREATE TABLE calls (\
+    number INTEGER PRIMARY KEY, \
+    term INTEGER NOT NULL, \
+    carrier INTEGER NOT NULL, \
+    slot INTEGER NOT NULL, \
+    is_group INTEGER NOT NULL, \
+    source INTEGER NOT NULL, \
+    target INTEGER NOT NULL, \
+    began INTEGER NOT NULL, \
+    began_ms INTEGER NOT NULL, \
+    ended INTEGER NOT NULL, \
+    ended_ms INTEGER NOT NULL, \
+    cause TEXT NOT NULL, \
+    waited INTEGER) STRICT;\
+    INSERT INTO calls (number, term, carrier, slot, is_group, source, target, \
+    began, began_ms, ended, ended_ms, cause) \
+    SELECT number, term, carrier, slot, is_group, source, target, \
+    began, began_ms, ended, ended_ms, cause FROM calls_before;\
+    DROP TABLE calls_before;\
+    CREATE TABLE carriers (\
+    term INTEGER NOT NULL, \
+    carrier INTEGER NOT NULL, \
+    polls INTEGER NOT NULL, \
+    heard INTEGER NOT NULL, \
+    noise INTEGER NOT NULL, \
+    active INTEGER NOT NULL, \
+    PRIMARY KEY (term, carrier)) STRICT;\
+    UPDATE schema_version SET version = 2";
 
 /// The number with which the first row of a query's answer begins.
 fn read_number<S: Alter>(tx: &mut Transaction<'_, S>, query: &str) -> Result<i64, Error>
@@ -120,9 +183,10 @@ fn find_version<S: Alter>(conn: &mut Connection<S>) -> Result<Option<i64>, Error
     read_version(&mut tx)
 }
 
-/// Accepts this crate's version.
+/// Accepts this crate's version, of those that are not carried over.
 fn check_version(found: i64) -> Result<(), FileFault>
-    ensures known { OnOk result (found ≡ pos 1) }
+    requires { found ≢ pos 1 }
+    ensures known { OnOk result (found ≡ pos 2) }
     ensures other { IfErr result (IsOtherVersion found) }
 {
     if found == VERSION {
@@ -134,24 +198,58 @@ fn check_version(found: i64) -> Result<(), FileFault>
     }
 }
 
+/// Runs statements in one transaction.
+fn commit_batch<S: Alter>(conn: &mut Connection<S>, text: &str) -> Result<(), Error>
+    requires idle { conn.old.in_transaction ≡ false }
+    ensures idle { conn.new.in_transaction ≡ false }
+    ensures made { HasCleanDisk (state S.Store conn.new)
+        → OnOk result (AreMade S.Store text.now conn.old conn.new) }
+    ensures not_made { HasCleanDisk (state S.Store conn.new)
+        → IfErr result (FailsToMake S.Store text.now conn.old conn.new) }
+    ensures nothing { HasCleanDisk (state S.Store conn.new)
+        → OnErr result (KeepsCommit (state S.Store conn.old) (state S.Store conn.new)) }
+    ensures crash { Survives (state S.Store conn.old) (state S.Store conn.new)
+        (MayLeaveTables S.Store text.now conn.old) }
+{
+    let mut tx = conn.transaction();
+    tx.execute_batch(text)?;
+    tx.commit()
+}
+
 /// Makes the tables in a database that has none, in one transaction.
 fn make_tables<S: Alter>(conn: &mut Connection<S>) -> Result<(), Error>
     requires idle { conn.old.in_transaction ≡ false }
     ensures idle { conn.new.in_transaction ≡ false }
-    ensures made { HasCleanDisk (state S.Store conn.new) → OnOk result (AreMade S.Store conn.old conn.new) }
+    ensures made { HasCleanDisk (state S.Store conn.new)
+        → OnOk result (AreMade S.Store statements_of_tables conn.old conn.new) }
     ensures not_made { HasCleanDisk (state S.Store conn.new)
-        → IfErr result (FailsToMake S.Store conn.old conn.new) }
+        → IfErr result (FailsToMake S.Store statements_of_tables conn.old conn.new) }
     ensures nothing { HasCleanDisk (state S.Store conn.new)
         → OnErr result (KeepsCommit (state S.Store conn.old) (state S.Store conn.new)) }
     ensures crash { Survives (state S.Store conn.old) (state S.Store conn.new)
-        (MayLeaveTables S.Store conn.old) }
+        (MayLeaveTables S.Store statements_of_tables conn.old) }
 {
-    let mut tx = conn.transaction();
-    tx.execute_batch(TABLES)?;
-    tx.commit()
+    commit_batch(conn, TABLES)
 }
 
-/// Makes the tables in a database that has none, else checks their version.
+/// Makes the tables from those of the version before, in one transaction.
+fn carry_over<S: Alter>(conn: &mut Connection<S>) -> Result<(), Error>
+    requires idle { conn.old.in_transaction ≡ false }
+    ensures idle { conn.new.in_transaction ≡ false }
+    ensures made { HasCleanDisk (state S.Store conn.new)
+        → OnOk result (AreMade S.Store statements_of_carrying conn.old conn.new) }
+    ensures not_made { HasCleanDisk (state S.Store conn.new)
+        → IfErr result (FailsToMake S.Store statements_of_carrying conn.old conn.new) }
+    ensures nothing { HasCleanDisk (state S.Store conn.new)
+        → OnErr result (KeepsCommit (state S.Store conn.old) (state S.Store conn.new)) }
+    ensures crash { Survives (state S.Store conn.old) (state S.Store conn.new)
+        (MayLeaveTables S.Store statements_of_carrying conn.old) }
+{
+    commit_batch(conn, CARRY_OVER)
+}
+
+/// Makes the tables in a database that has none. Those of the version before are carried over: their rows stay, and what
+/// they do not say is NULL. That is done in one transaction. Of any other database, checks the version.
 ///
 /// # Errors
 ///
@@ -177,7 +275,16 @@ pub fn prepare_tables<S: Alter>(conn: &mut Connection<S>) -> Result<(), FileFaul
             Ok(()) => Ok(()),
             Err(error) => Err(fault_of(error)),
         },
-        Ok(Some(found)) => check_version(found),
+        Ok(Some(found)) => {
+            if found == VERSION_BEFORE {
+                match carry_over(conn) {
+                    Ok(()) => Ok(()),
+                    Err(error) => Err(fault_of(error)),
+                }
+            } else {
+                check_version(found)
+            }
+        }
         Err(error) => Err(fault_of(error)),
     }
 }

@@ -31,6 +31,7 @@ pub fn kind_word(kind: &EventKind) -> &'static str
         EventKind::Dropped => "dropped",
         EventKind::CameUp => "came_up",
         EventKind::WasLost => "was_lost",
+        EventKind::JoinedCall => "joined_call",
         EventKind::Refused => "refused",
         EventKind::DropCommand => "drop_command",
         EventKind::EndCommand => "end_command",

@@ -5,6 +5,7 @@ ghost use Rattle.dmr_records.specs.Ran.{Keeps, RanAll};
 ghost use Rattle.dmr_records.specs.Statements.{prune as statements_of_pruning};
 ghost use Rattle.dmr_records.specs.Statements.{prune_after as statements_after};
 ghost use Rattle.dmr_records.specs.Statements.{put_calls as statements_of_calls};
+ghost use Rattle.dmr_records.specs.Statements.{put_carriers as statements_of_carriers};
 ghost use Rattle.dmr_records.specs.Statements.{put_changes as statements_of_changes};
 ghost use Rattle.dmr_records.specs.Statements.{put_notes as statements_of_notes};
 ghost use Rattle.dmr_records.specs.Statements.{put_radios as statements_of_radios};
@@ -16,11 +17,11 @@ ghost use Rattle.sqlite.specs.Held.{state};
 
 use crate::events::{event_of_change, event_of_note};
 use crate::rows::{
-    cut_registrations, mark_removed, prune_calls, prune_events, prune_terms, put_call, put_event,
-    put_registration, put_term,
+    cut_registrations, mark_removed, prune_calls, prune_carriers, prune_events, prune_terms,
+    put_call, put_carrier, put_event, put_registration, put_term,
 };
 use crate::term_row::TermRow;
-use dmr_keeper::{Change, EndedCall, Note, Records, TimedRecords};
+use dmr_keeper::{CarrierCounts, Change, EndedCall, Note, Records, TimedRecords};
 use dmr_pdu::Address;
 use sqlite::{Alter, Error, Transaction};
 
@@ -75,6 +76,23 @@ fn put_notes<S: Alter>(
     Ok(())
 }
 
+/// Writes the rows of the counts of carriers, in their order.
+fn put_carriers<S: Alter>(
+    tx: &mut Transaction<'_, S>,
+    term: TermRow,
+    carriers: &[CarrierCounts],
+) -> Result<(), Error>
+    ensures same_reference { tx.new.conn.ghost_name ≡ tx.old.conn.ghost_name }
+    ensures ran { RanAll S.Store (statements_of_carriers term carriers.now)
+        tx.old.conn.now tx.new.conn.now result }
+    ensures keeps { Keeps S.Store tx.old.conn.now tx.new.conn.now }
+{
+    for counts in carriers {
+        put_carrier(tx, term, counts)?;
+    }
+    Ok(())
+}
+
 /// Writes radios in their order, from the first place on.
 fn put_registrations<S: Alter>(tx: &mut Transaction<'_, S>, radios: &[Address]) -> Result<(), Error>
     ensures same_reference { tx.new.conn.ghost_name ≡ tx.old.conn.ghost_name }
@@ -101,7 +119,8 @@ fn put_radios<S: Alter>(tx: &mut Transaction<'_, S>, radios: &[Address]) -> Resu
     cut_registrations(tx, radios.len())
 }
 
-/// Removes the oldest calls, events and terms, so that at most this many of each stay.
+/// Removes the oldest calls, events and terms, so that at most this many of each stay, and the counts of carriers in
+/// terms that are removed.
 fn prune<S: Alter>(tx: &mut Transaction<'_, S>, most: u32) -> Result<(), Error>
     ensures same_reference { tx.new.conn.ghost_name ≡ tx.old.conn.ghost_name }
     ensures ran { RanAll S.Store (statements_of_pruning most)
@@ -111,7 +130,8 @@ fn prune<S: Alter>(tx: &mut Transaction<'_, S>, most: u32) -> Result<(), Error>
     mark_removed(tx, most)?;
     prune_calls(tx)?;
     prune_events(tx)?;
-    prune_terms(tx)
+    prune_terms(tx)?;
+    prune_carriers(tx)
 }
 
 /// Removes the oldest rows after the term with this number, if it is a multiple of `most / 1000 + 1`.
@@ -143,6 +163,7 @@ fn put_rest<S: Alter>(
     put_calls(tx, term, records.calls.as_slice())?;
     put_changes(tx, term, records.changes.as_slice())?;
     put_notes(tx, term, records.notes.as_slice())?;
+    put_carriers(tx, term, records.carriers.as_slice())?;
     put_radios(tx, records.after.registered())?;
     prune_after(tx, most, term.number)
 }

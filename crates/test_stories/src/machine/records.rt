@@ -3,7 +3,7 @@
 //! Inputs are the events of a site (`events`), which have no answer here, and these:
 //!
 //! - `term` ends a term. The answer has the calls that ended in it.
-//! - `changes`, `notes` and `counts` ask for those of the last term.
+//! - `changes`, `notes`, `counts` and `carriers` ask for those of the last term.
 //! - `open` asks for the calls that are open at its end, `radios` for the registered radios.
 //! - `restart` makes a new site of the same plan. The radios are registered that were so at the end of the last term.
 //!   Ticks begin again at 0.
@@ -11,6 +11,7 @@
 //! - `waiting` asks how many terms' records wait for the store, and how many were lost.
 //! - `kept` asks the store for the calls that ended in all terms. Their number of changes, of notes and of terms
 //!   follows, and the number of registered radios.
+//! - `all carriers` asks the store for the counts of carriers in all terms.
 //! - `day N` asks for the time of day of tick N, by the last term if the store has kept it.
 //!
 //! The records of a term go to the store through an outbox. The first term ends at 1,700,000,000,000 milliseconds since
@@ -18,11 +19,13 @@
 //!
 //! The items of an answer have `, ` between them:
 //!
-//! - a call that ended: `C.S R T A to B CAUSE`, with the ticks A and B at which it began and ended
+//! - a call that ended: `C.S R T A to B CAUSE`, with the ticks A and B at which it began and ended; then `waited N`, if
+//!   its request waited for N ticks
 //! - a change: `KIND R at A`
 //! - a note: `WORDS at A`
 //! - an open call: `C.S R T since A`
 //! - a radio: `R`
+//! - the counts of a carrier: `C`, and those of polls, bursts, noise and activity
 //!
 //! The counts are those of entries, bursts, requests, noise, activity, polls, ticks, commands, grants, late entries,
 //! registrations, refusals, calls that began, calls that ended, and the most lines.
@@ -35,7 +38,8 @@ use crate::language::words::{cut, replace_with};
 use crate::language::{Listener, run_parts};
 use crate::site_file::{SMALL, plan_of};
 use answers::{
-    write_changes, write_counts, write_ended, write_kept, write_notes, write_open, write_radios,
+    write_carriers, write_changes, write_counts, write_ended, write_kept, write_notes, write_open,
+    write_radios,
 };
 use dmr_core::{Acts, Entry, Event, Site};
 use dmr_keeper::{
@@ -98,7 +102,7 @@ heard 0.0 9F000001.93.1003 =>
 poll 0 =>
 ";
 
-static STORIES: [SiteStory; 6] = [
+static STORIES: [SiteStory; 7] = [
     // Calls begin in one term and end in later ones, each for another cause, and each is recorded once. After a restart
     // the radios that were registered still are, and ticks begin at 0.
     SiteStory {
@@ -301,6 +305,44 @@ counts => 7 0 0 0 0 7 0 0 0 1 0 0 0 0 0
 ",
         ],
     },
+    // Radio 1005 asks for the talkgroup to which 1001 talks: it joins that call, with one note for four copies of the
+    // grant. The repeated request of 1001 has no note, and the late entry that is sent then has none. 1004 waits over
+    // the ends of two terms. Then its call has the ticks of the wait.
+    SiteStory {
+        name: "waits and joined calls",
+        site: "grant_copies = 1 / grant_copies = 4",
+        input: &[
+            SIX_RADIOS,
+            "\
+term =>
+carriers => 0 6 6 0 0, 1 0 0 0 0
+5 tick =>
+",
+            THREE_CALLS,
+            "\
+heard 0.0 9F000001.94.1004 =>
+heard 0.0 9F000001.91.1005 =>
+heard 0.0 9F000001.91.1001 =>
+noise 1.0 =>
+active 0.1 =>
+term =>
+notes => joined 1005 91 0.1 at 5
+carriers => 0 3 6 0 1, 1 0 0 1 0
+all carriers => 0 6 6 0 0, 1 0 0 0 0, 0 3 6 0 1, 1 0 0 1 0
+22 poll 0 =>
+term =>
+notes =>
+carriers => 0 22 0 0 0
+3 tick =>
+say end 0.1 =>
+poll 0 =>
+tick =>
+say end 0.1 =>
+term => 0.1 1001 g91 5 to 8 operator, 0.1 1004 g94 9 to 9 operator waited 4
+open => 1.0 1002 g92 since 5, 1.1 1003 g93 since 5
+",
+        ],
+    },
 ];
 
 #[test]
@@ -364,6 +406,8 @@ impl Listener for Terms {
             "changes" => write_changes(said, self.last.changes.as_slice()),
             "notes" => write_notes(said, self.last.notes.as_slice()),
             "counts" => write_counts(said, &self.last.counts),
+            "carriers" => write_carriers(said, self.last.carriers.as_slice()),
+            "all carriers" => write_carriers(said, self.shelf.store.carriers()),
             "open" => write_open(said, self.last.after.calls()),
             "radios" => write_radios(said, self.last.after.registered()),
             "kept" => write_kept(said, &self.shelf.store),

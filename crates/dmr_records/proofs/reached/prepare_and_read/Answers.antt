@@ -1,4 +1,4 @@
-use Rattle.std.proofs.Common.{arith}
+use Rattle.std.proofs.Common.{◌≡◌, Err, inl, inr, arith, rules}
 use Rattle.dmr_records.specs.Reading.{AreNotRead}
 use Rattle.dmr_records.proofs.ReachedLemmas.{fails_over, may_read, reads_radios}
 use Rattle.dmr_records.proofs.ResultLemmas.{on_err}
@@ -14,3 +14,8 @@ returns-clause-not_read g c =
 
 pub returns-clause-crash : goal.returns-clause-crash
 returns-clause-crash g c = may_read g.S.Store c.args.conn.now c.prepare_tables.new.conn c.read_radios.new.conn c.in_ok-prepare_tables.ensures.prepared c.prepare_tables.ensures.crash c.read_radios.ensures.survives
+
+pub returns-in_err-prepare_tables-clause-not_read : goal.returns-in_err-prepare_tables-clause-not_read
+returns-in_err-prepare_tables-clause-not_read g c clean =
+    let is : c.from_residual.result ≡ Err c.in_err-prepare_tables.field-0.0 = search rules in
+    rw is (inr (inl (c.in_err-prepare_tables.ensures.not_prepared clean, c.in_err-prepare_tables.ensures.nothing clean)))

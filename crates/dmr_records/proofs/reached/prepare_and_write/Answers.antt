@@ -1,4 +1,4 @@
-use Rattle.std.proofs.Common.{arith}
+use Rattle.std.proofs.Common.{◌≡◌, Err, inl, inr, arith, rules}
 use Rattle.dmr_records.specs.Written.{IsNotWritten}
 use Rattle.dmr_records.proofs.ReachedLemmas.{fails_over, may_keep, writes_term}
 use Rattle.dmr_records.proofs.reached.prepare_and_write.Goals as goal
@@ -13,3 +13,8 @@ returns-clause-not_written g c =
 
 pub returns-clause-crash : goal.returns-clause-crash
 returns-clause-crash g c = may_keep g.S.Store c.args.conn.now c.prepare_tables.new.conn c.write_term.new.conn c.in_ok-prepare_tables.ensures.prepared c.args.most c.args.term.now c.prepare_tables.ensures.crash c.write_term.ensures.crash
+
+pub returns-in_err-prepare_tables-clause-not_written : goal.returns-in_err-prepare_tables-clause-not_written
+returns-in_err-prepare_tables-clause-not_written g c clean =
+    let is : c.from_residual.result ≡ Err c.in_err-prepare_tables.field-0.0 = search rules in
+    rw is (inr (inl (c.in_err-prepare_tables.ensures.not_prepared clean, c.in_err-prepare_tables.ensures.nothing clean)))

@@ -2,8 +2,8 @@
 
 use crate::language::words::write_call;
 use dmr_keeper::{
-    Change, ChangeKind, EndCause, EndedCall, InMemory, Note, Occurrence, OpenCall, Outcome,
-    TermCounts,
+    CarrierCounts, Change, ChangeKind, EndCause, EndedCall, InMemory, Note, Occurrence, OpenCall,
+    Outcome, TermCounts,
 };
 use dmr_pdu::{Address, OutOfMemory};
 
@@ -35,6 +35,9 @@ pub fn write_ended(said: &mut String, calls: &[EndedCall]) -> Result<(), OutOfMe
         write_call(said, "", &call.call)?;
         let cause = cause_word(call.cause);
         write!(said, " {} to {} {cause}", call.began, call.ended)?;
+        if call.waited > 0 {
+            write!(said, " waited {}", call.waited)?;
+        }
     }
     Ok(())
 }
@@ -104,6 +107,12 @@ fn write_occurrence(said: &mut String, what: &Occurrence) -> Result<(), OutOfMem
     match what {
         Occurrence::CameUp(carrier) => write!(said, "up {carrier}"),
         Occurrence::WasLost(carrier) => write!(said, "lost {carrier}"),
+        Occurrence::JoinedCall {
+            radio,
+            target,
+            carrier,
+            slot,
+        } => write!(said, "joined {radio} {target} {carrier}.{slot}"),
         Occurrence::Refused {
             source,
             target,
@@ -158,6 +167,19 @@ pub fn write_counts(said: &mut String, counts: &TermCounts) -> Result<(), OutOfM
     for number in numbers {
         write!(said, "{mark}{number}")?;
         mark = " ";
+    }
+    Ok(())
+}
+
+/// Writes the counts of carriers.
+pub fn write_carriers(said: &mut String, carriers: &[CarrierCounts]) -> Result<(), OutOfMemory> {
+    for counts in carriers {
+        write_mark(said)?;
+        write!(
+            said,
+            "{} {} {} {} {}",
+            counts.carrier, counts.polls, counts.heard, counts.noise, counts.active
+        )?;
     }
     Ok(())
 }

@@ -117,7 +117,8 @@ def shade_of(hour: Hour, most: float) -> str:
     """The class of an hour's cell, if the busiest one has `most` Erlang."""
     if hour.erlang is None:
         return "none"
-    return f"heat-{math.ceil((SHADES - 1) * hour.erlang / most) if most else 0}"
+    part = hour.erlang / most if most else 0
+    return f"heat-{min(SHADES - 1, math.ceil((SHADES - 1) * part))}"
 
 
 def hour_cell(hour: Hour | None, clock: str, most: float, is_busy: bool) -> str:

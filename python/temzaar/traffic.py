@@ -290,8 +290,7 @@ def read_traffic(records: Records, span: Span, path: str) -> Traffic:
         traffic = Traffic(span, [*hours_of(span)], unrecorded(records, span))
         add_calls(records, traffic)
         add_requests(records, traffic)
-        active = {number for number, it in traffic.radios.items() if it.calls or it.joined}
-        silent = sorted(registered_within(records, span) - active)
+        silent = sorted(registered_within(records, span) - traffic.radios.keys())
         traffic.silent = [(it, traffic.called[it]) for it in silent]
         traffic.outages = sorted(find_outages(records, span), key=lambda it: it.from_ms)
         traffic.commands = find_commands(records, span)

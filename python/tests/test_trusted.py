@@ -50,12 +50,12 @@ PAGE = """
 ## `one::count`
 Counts. Definitions: 2; 2 new, of 6 lines.
 
-- one: Numbers (most, IsSmall), src (Kind)
+- one: Numbers (most IsSmall), src (Kind)
 
 2 definitions of the 3 in `specs/`, 6 lines; 1 types; 0 traits; 0 words of the library.
 """
 TEXT = """\
-- `one/specs/Numbers.antt`: most, IsSmall
+- `one/specs/Numbers.antt`: most IsSmall
 
 Small numbers.
 
@@ -110,7 +110,7 @@ class Trusted(unittest.TestCase):
     def test_a_new_definition_shows(self) -> None:
         path = self.top / "crates/one/specs/Numbers.antt"
         path.write_text(NUMBERS.replace("n ≤ most", "n ≤ most + other"), encoding="utf-8")
-        self.assertIn("- one: Numbers (most, other, IsSmall), src (Kind)\n", self.printed())
+        self.assertIn("- one: Numbers (most other IsSmall), src (Kind)\n", self.printed())
 
     def test_refusals(self) -> None:
         self.assertEqual(self.faults("the list", "It is of 2 definitions\nof 6 lines."), [])

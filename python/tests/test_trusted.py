@@ -1,4 +1,4 @@
-"""The list of definitions that a reader has to believe: ci/trusted-definitions has a line for each file, with the names on it, and refuses a list that is not so."""
+"""The list of definitions that a reader has to believe: ci/trusted-definitions has a line for each crate, with its files and names, and refuses a list that is not so."""
 import importlib
 import importlib.machinery
 import importlib.util
@@ -48,15 +48,14 @@ other = 1
 """
 PAGE = """
 ## `one::count`
-Counts. Its contract depends on 2 definitions. Those not listed above: 2, of 6 lines.
+Counts. Definitions: 2; 2 new, of 6 lines.
 
-- `one/specs/Numbers.antt` (2): most, IsSmall
-- `one/src` (1, types and traits of the code): Kind
+- one: Numbers (most IsSmall), src (Kind)
 
 2 definitions of the 3 in `specs/`, 6 lines; 1 types; 0 traits; 0 words of the library.
 """
 TEXT = """\
-- `one/specs/Numbers.antt` (2): most, IsSmall
+- `one/specs/Numbers.antt`: most IsSmall
 
 Small numbers.
 
@@ -101,16 +100,17 @@ class Trusted(unittest.TestCase):
         (self.top / "ASSURANCE.md").write_text(short, encoding="utf-8")
         return tool.faults_of(reader, "the list")
 
-    def test_a_line_for_each_file(self) -> None:
+    def test_a_line_for_each_crate(self) -> None:
         """A definition comes after those that it uses. Its text is printed on demand, with the comments."""
-        self.assertEqual(self.printed(), f"# Head\n\nThe functions: [`one::count`](#onecount).\n{PAGE}")
+        self.assertEqual(self.printed(), f"# Head\n\nThe functions: each has a heading.\n{PAGE}")
+        self.assertIn("\nThe functions: `one::count`.\n", self.printed(True))
         self.assertIn(TEXT, self.printed(True))
         self.assertIn("```\n/// A kind.\npub struct Kind {\n", self.printed(True))
 
     def test_a_new_definition_shows(self) -> None:
         path = self.top / "crates/one/specs/Numbers.antt"
         path.write_text(NUMBERS.replace("n ≤ most", "n ≤ most + other"), encoding="utf-8")
-        self.assertIn("- `one/specs/Numbers.antt` (3): most, other, IsSmall\n", self.printed())
+        self.assertIn("- one: Numbers (most other IsSmall), src (Kind)\n", self.printed())
 
     def test_refusals(self) -> None:
         self.assertEqual(self.faults("the list", "It is of 2 definitions\nof 6 lines."), [])

@@ -1,19 +1,22 @@
-"""A file of records that a served controller cannot use, or cannot write for a while, and how many
-rows the file keeps (docs/RECORDS.md). All of it is skipped if the program was not built."""
+"""A file of records that a served controller cannot use, or cannot write for a while, or carries
+over from version 1, and how many rows the file keeps (docs/RECORDS.md). All of it is skipped if the
+program was not built."""
 import pathlib
 import resource
 import sqlite3
 import subprocess
 import sys
 import tempfile
+import time
 import unittest
 from collections.abc import Sequence
 from typing import Any
 
 from temzaar.process import Controller
 from temzaar.sitefile import Site
+from tests.made_records import CALLS, EVENTS, REGISTRATIONS, TERMS, insert
 from tests.support import program
-from tests.test_records import opened, statements_of_tables
+from tests.test_records import SCHEMA, opened, statements_of_first, statements_of_tables
 from tests.worked_session import PATIENCE, Player, site_of
 
 # A program that reads a file of records, and stays connected until its input ends.
@@ -81,7 +84,7 @@ class Faults(Served):
         self.assertTrue(self.path.read_bytes() == before)
 
     def test_newer_tables(self) -> None:
-        self.make(statements_of_tables() + "; INSERT INTO schema_version VALUES (2)")
+        self.make(statements_of_tables() + "; INSERT INTO schema_version VALUES (3)")
         self.expect_fault("a later version wrote the file")
 
     def test_other_tables(self) -> None:
@@ -131,21 +134,29 @@ class Faults(Served):
         self.assertEqual(terms, [(1, entries), *later])
 
 
-class Limits(Served):
-    """A file that may not grow, and one that has as many rows as it keeps."""
+class Played(Served):
+    """A controller that is served for a term with a call."""
 
-    def play_term(self, most: int) -> list[str]:
-        """Plays a term with a call, while no file may have more octets than `most`. What was noted
-        of the records. A write beyond that fails, since its signal stays ignored, as it is here."""
-        site = site_of(**SLOW)
-        with self.serve(site, ["--terms", "1"], restore_signals=False) as controller:
-            _, hard = resource.prlimit(controller.pid, resource.RLIMIT_FSIZE)
-            resource.prlimit(controller.pid, resource.RLIMIT_FSIZE, (most, hard))
+    def play_term(self, most: int, from_start: bool = False) -> list[str]:
+        """Plays a term with a call, while no file may have more octets than `most`, once the site
+        is served or from its start on. What was noted of the records. A write beyond that fails,
+        since its signal stays ignored, as it is here."""
+        def limit(pid: int = 0) -> None:
+            _, hard = resource.prlimit(pid, resource.RLIMIT_FSIZE)
+            resource.prlimit(pid, resource.RLIMIT_FSIZE, (most, hard))
+
+        site, before = site_of(**SLOW), limit if from_start else None
+        with self.serve(site, ["--terms", "1"], restore_signals=False, preexec_fn=before) as controller:
+            limit(controller.pid)
             player = Player(site)
             for step in CALL:
                 player.take(step)
             player.play_to_end(controller)
-        return controller.find_in_notes("records: (not kept.*)")
+        return controller.find_in_notes("records: (no.*)")
+
+
+class Limits(Played):
+    """A file that may not grow, and one that has as many rows as it keeps."""
 
     def test_a_file_that_may_not_grow(self) -> None:
         """Each term is there whole or not at all: by the first limits it is not, by the last it
@@ -182,6 +193,112 @@ class Limits(Served):
             found = self.rows(f"SELECT min(number), count(*), max(number) FROM {table}")
             self.assertEqual(found, [(removed + 1, count, last)], table)
         self.assertEqual(self.rows("SELECT * FROM registrations"), [(1, 1001)])
+
+
+class CarriedOver(Played):
+    """A file of version 1 with rows."""
+
+    def setUp(self) -> None:
+        super().setUp()
+        self.make_first()
+        self.first = self.contents()
+
+    def make_first(self, calls: int = 0) -> None:
+        """Makes the file, with the made records. If `calls` says how many, it has so many calls."""
+        self.path.unlink(missing_ok=True)
+        self.make(statements_of_first())
+        with opened(self.path) as conn, conn:
+            insert(conn, "terms", TERMS)
+            insert(conn, "events", EVENTS)
+            insert(conn, "registrations", REGISTRATIONS)
+            # the made ones have their columns in another order
+            insert(conn, "calls", tuple((*it[:8], it[9], it[8], *it[10:]) for it in CALLS))
+            if calls:
+                fill(conn, "calls", calls)
+
+    def contents(self, calls: str = "*") -> dict[str, list[tuple[Any, ...]]]:
+        """The rows of the tables that both versions have. `calls` are the columns of the calls."""
+        columns = {"terms": "*", "calls": calls, "events": "*", "registrations": "*", "removed": "*"}
+        return {it: self.rows(f"SELECT {columns[it]} FROM {it} ORDER BY 1") for it in columns}
+
+    def expect_first_rows(self, term: int = 0) -> None:
+        """The rows of version 1 are there, and the columns that it does not have are NULL. Others
+        are of this term."""
+        for table, rows in self.contents().items():
+            wanted = [(*it, None) for it in self.first[table]] if table == "calls" else self.first[table]
+            self.assertEqual(rows[:len(wanted)], wanted, table)
+            if table in ("calls", "events"):
+                self.assertEqual({row[1] for row in rows[len(wanted):]}, {term} if term else set())
+            else:
+                self.assertEqual(len(rows) - len(wanted), 1 if term and table == "terms" else 0, table)
+
+    def expect_version(self) -> None:
+        """The tables are those of a new file, and sound."""
+        self.assertEqual(self.rows("SELECT * FROM schema_version"), [(2,)])
+        self.assertEqual(self.rows("PRAGMA integrity_check"), [("ok",)])
+        with opened(":memory:") as other:
+            other.executescript(statements_of_tables())
+            self.assertEqual(self.rows(SCHEMA), other.execute(SCHEMA).fetchall())
+
+    def test_by_the_start(self) -> None:
+        """The radios are registered again."""
+        with self.serve(site_of(**SLOW)) as controller:
+            pass
+        self.assertEqual(controller.find_in_notes("records: (.*)"), ["3 radios registered again"])
+        self.expect_version()
+        self.expect_first_rows()
+        self.assertEqual(self.rows("SELECT * FROM carriers"), [])
+
+    def test_the_next_term(self) -> None:
+        """It has the next numbers, and what version 1 does not have. A start after it finds tables
+        of this version."""
+        self.assertEqual(self.play_term(1 << 20), [])
+        self.expect_version()
+        self.expect_first_rows(4)
+        calls = self.rows("SELECT number, source, target, waited FROM calls WHERE term = 4")
+        self.assertEqual(calls, [(6, 1001, 91, 0)])
+        counts = self.rows("SELECT term, carrier, heard, noise, active FROM carriers ORDER BY 2")
+        self.assertEqual(counts, [(4, 0, 0, 0, 0), (4, 1, 2, 0, 0)])
+        self.assertEqual(self.run_terms(1), ["3 radios registered again"])
+        self.assertEqual(self.rows("SELECT max(number) FROM terms"), [(5,)])
+        self.expect_version()
+
+    def test_a_file_that_may_not_grow(self) -> None:
+        """It is carried over whole or not at all."""
+        noted, refused = list[bool](), "the disk failed or refused a read or a write"
+        for most in (0, 8_192, 16_384, 32_768, 65_536, 131_072, 262_144, 1 << 20):
+            self.make_first()
+            noted.append(NOT_KEPT + refused in self.play_term(most, from_start=True))
+            versions = self.rows("SELECT * FROM schema_version")
+            self.assertEqual(self.rows("PRAGMA integrity_check"), [("ok",)], most)
+            if versions == [(1,)]:
+                self.assertEqual(self.contents(), self.first, most)
+            else:
+                self.expect_version()
+                self.expect_first_rows(0 if noted[-1] else 4)
+        self.assertEqual((noted[0], noted[-1]), (True, False))
+
+    def test_kills(self) -> None:
+        """After a kill, at any moment of it, the file has either version, whole. The next start
+        carries it over."""
+        versions, calls = set[int](), 20_000
+        for kill in range(12):
+            self.make_first(calls)
+            self.first = self.contents()
+            with Controller(self.built, site_of(**SLOW), [], {"STATE_DIRECTORY": self.folder}) as it:
+                time.sleep(0.03 * kill)
+                it.process.kill()
+                it.process.wait(PATIENCE)
+            self.assertEqual(self.rows("PRAGMA integrity_check"), [("ok",)])
+            [(version,)] = self.rows("SELECT * FROM schema_version")
+            versions.add(version)
+            if version == 1:
+                self.assertEqual(self.contents(), self.first, kill)
+                with self.serve(site_of(**SLOW)):
+                    pass
+            self.expect_version()
+            self.expect_first_rows()
+        self.assertIn(1, versions)
 
 
 def fill(conn: sqlite3.Connection, table: str, count: int) -> None:

@@ -17,7 +17,7 @@ from temzaar.sitefile import Site
 from tests.made_records import CALLS, EVENTS, REGISTRATIONS, TERMS, insert
 from tests.support import program
 from tests.test_records import SCHEMA, opened, statements_of_first, statements_of_tables
-from tests.worked_session import PATIENCE, Player, site_of
+from tests.worked_session import PATIENCE, Player, site_of, size_of
 
 # A program that reads a file of records, and stays connected until its input ends.
 READER = """\
@@ -36,6 +36,8 @@ CALL = ("0 comes up", "1 comes up", "1001 joins", "1001 calls 91", "say end 0 0"
 # What is noted if the file cannot be read at the start, and of the first term that is not written.
 NOT_READ = "no radio is registered again: "
 NOT_KEPT = "not kept, trying again with each term: "
+# How often a controller is killed over a file of version 1, and how many calls it has.
+KILLS, MANY_CALLS = 8, 5000
 # How many rows of each table stay. Older ones are removed with each 101st term.
 MOST_ROWS, REMOVES = 100_000, 101
 
@@ -266,7 +268,7 @@ class CarriedOver(Played):
     def test_a_file_that_may_not_grow(self) -> None:
         """It is carried over whole or not at all."""
         noted, refused = list[bool](), "the disk failed or refused a read or a write"
-        for most in (0, 8_192, 16_384, 32_768, 65_536, 131_072, 262_144, 1 << 20):
+        for most in (0, 16_384, 32_768, 65_536, 1 << 20):
             self.make_first()
             noted.append(NOT_KEPT + refused in self.play_term(most, from_start=True))
             versions = self.rows("SELECT * FROM schema_version")
@@ -278,27 +280,38 @@ class CarriedOver(Played):
                 self.expect_first_rows(0 if noted[-1] else 4)
         self.assertEqual((noted[0], noted[-1]), (True, False))
 
+    def kill(self, controller: Controller, number: int) -> None:
+        """Kills a controller: the first at once, the last when it is served, and the others some
+        milliseconds after its log has a page, or after its file was read."""
+        log = pathlib.Path(f"{self.path}-wal")
+        if number == KILLS - 1:
+            controller.wait_until_served()
+        elif number > 0:
+            while size_of(log) < 4096 and not controller.find_in_notes("records: (.*)"):
+                time.sleep(0.0005)
+            time.sleep(0.003 * (number - 1))
+        controller.process.kill()
+        controller.process.wait(PATIENCE)
+
     def test_kills(self) -> None:
         """After a kill, at any moment of it, the file has either version, whole. The next start
         carries it over."""
-        versions, calls = set[int](), 20_000
-        for kill in range(12):
-            self.make_first(calls)
+        versions, site, variables = list[int](), site_of(**SLOW), {"STATE_DIRECTORY": self.folder}
+        for number in range(KILLS):
+            self.make_first(MANY_CALLS)
             self.first = self.contents()
-            with Controller(self.built, site_of(**SLOW), [], {"STATE_DIRECTORY": self.folder}) as it:
-                time.sleep(0.03 * kill)
-                it.process.kill()
-                it.process.wait(PATIENCE)
+            with Controller(self.built, site, [], variables) as controller:
+                self.kill(controller, number)
             self.assertEqual(self.rows("PRAGMA integrity_check"), [("ok",)])
             [(version,)] = self.rows("SELECT * FROM schema_version")
-            versions.add(version)
+            versions.append(version)
             if version == 1:
-                self.assertEqual(self.contents(), self.first, kill)
-                with self.serve(site_of(**SLOW)):
+                self.assertEqual(self.contents(), self.first, number)
+                with self.serve(site):
                     pass
             self.expect_version()
             self.expect_first_rows()
-        self.assertIn(1, versions)
+        self.assertEqual((versions[0], versions[-1]), (1, 2))
 
 
 def fill(conn: sqlite3.Connection, table: str, count: int) -> None:

@@ -292,7 +292,10 @@ def now_ms() -> int:
 
 def size_of(path: pathlib.Path) -> int:
     """The octets of a file; 0 if there is none yet."""
-    return path.stat().st_size if path.exists() else 0
+    try:
+        return path.stat().st_size
+    except FileNotFoundError:
+        return 0
 
 
 def without_noise(given: Input) -> Input:

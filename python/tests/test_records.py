@@ -1,15 +1,19 @@
 """The file of records: docs/RECORDS.md, the tables that `dmr_records` makes, and the file that a
 served controller writes of a worked session."""
 import contextlib
+import csv
+import json
 import pathlib
 import re
 import sqlite3
 import tempfile
 import unittest
-from collections.abc import Iterator
+from collections.abc import Callable, Iterator
 
+from temzaar.cli import archive, callbook, report
+from temzaar.hub.newrecords import SUMMED, read_new
 from tests.made_records import NOON, insert, make_records
-from tests.support import TOP, program, queries_of, read_document, table_rows
+from tests.support import TOP, call_tool, program, queries_of, read_document, table_rows
 from tests.worked_session import CALLS, EVENTS, REGISTRATIONS, RUNS, Columns, Session
 
 TABLES = ("schema_version", "terms", "calls", "events", "carriers", "registrations", "removed")
@@ -183,7 +187,8 @@ class Written(unittest.TestCase):
         """One that did nothing in a term has no row of it. Those of a term add up to its own."""
         self.assertEqual(self.rows("carriers", order="1, 2"), self.session.carrier_rows())
         counts = ("polls", "heard", "noise", "active")
-        sums = self.rows("carriers GROUP BY term", f"term, {', '.join(f'sum({it})' for it in counts)}")
+        summed = ", ".join(f"sum({it})" for it in counts)
+        sums = self.rows("carriers GROUP BY term", f"term, {summed}")
         self.assertEqual(sums, self.rows("terms", f"number, {', '.join(counts)}"))
 
     def test_registrations(self) -> None:
@@ -191,6 +196,69 @@ class Written(unittest.TestCase):
 
     def test_runs_go_on_after_a_reader(self) -> None:
         self.assertEqual(self.numbers, [[*range(1, 6)], [*range(1, 7)], [*range(1, 8)]])
+
+    def run_tool(self, main: Callable[[list[str]], int], *words: str) -> str:
+        """What a tool prints of the file."""
+        done = call_tool(main, "--records", str(self.path), *words)
+        self.assertEqual(done.returncode, 0, done.stderr)
+        return done.stdout
+
+    def test_callbook(self) -> None:
+        """It lists how long each call waited, and who joined it."""
+        found = json.loads(self.run_tool(callbook.main, "--format", "json"))
+        joined: dict[int, list[int]] = {1: [1003], 5: [1005]}
+        wanted = [(row[0], row[5], row[6], joined.get(row[0], []))
+                  for row in self.session.call_rows(self.ended_ms)]
+        self.assertEqual([(it["number"], it["source"], it["target"], it["joined"])
+                          for it in found], wanted)
+        # a tick of the run in which a call waited is 30 ms
+        for row, call in zip(self.rows("calls", "number, waited"), found, strict=True):
+            self.assertAlmostEqual(call["waited_seconds"], 0.03 * row[1], delta=0.001)
+
+    def test_archive(self) -> None:
+        """The months' files have all rows, and tables of the same version. A second run adds
+        nothing."""
+        with tempfile.TemporaryDirectory() as folder:
+            self.run_tool(archive.main, "--folder", folder)
+            self.assertEqual(self.run_tool(archive.main, "--folder", folder), "nothing to do\n")
+            for table in ("terms", "calls", "events", "carriers"):
+                found: set[Columns] = set()
+                for month in pathlib.Path(folder).iterdir():
+                    with opened(month) as conn:
+                        self.assertEqual(conn.execute("SELECT * FROM schema_version").fetchall(),
+                                         self.rows("schema_version"))
+                        found |= set(conn.execute(f"SELECT * FROM {table}"))
+                self.assertEqual(found, set(self.rows(table)), table)
+
+    def test_hub(self) -> None:
+        """What it counts, of all terms and of the last two."""
+        new = read_new(str(self.path), None)
+        self.assertEqual((new.terms, new.last and new.last.number), (7, 7))
+        sums = self.conn.execute(f"SELECT {', '.join(f'sum({it})' for it in SUMMED)} FROM terms")
+        self.assertEqual(tuple(new.sums.values()), sums.fetchone())
+        self.assertEqual(new.calls, {("group", "carrier_lost"): 1, ("radio", "ended_by_operator"): 1,
+                                     ("radio", "radio_left"): 1, ("group", "ended_by_operator"): 1,
+                                     ("group", "dropped"): 1, ("group", "hang_time"): 1,
+                                     ("group", "maximum"): 1})
+        self.assertEqual(sum(new.refusals.values()), 2)
+        self.assertEqual(len(new.newest), 7)
+
+    def test_report(self) -> None:
+        """Which calls waited, and what joined calls add to talkgroups and radios."""
+        days = self.conn.execute("SELECT date(min(began_ms) / 1000, 'unixepoch', 'localtime'), "
+                                 "date(max(ended_ms) / 1000, 'unixepoch', 'localtime') FROM calls")
+        first, last = days.fetchone()
+        text = self.run_tool(report.main, "--from", first, "--to", last, "--format", "csv")
+        found = {(it["section"], it["key"], it["measure"]): it["value"]
+                 for it in csv.DictReader(text.splitlines())}
+        self.assertEqual(found["waits", "none", "calls"], "6")
+        of_waits = [int(value) for (section, key, measure), value in found.items()
+                    if (section, measure) == ("waits", "calls") and key != "none"]
+        self.assertEqual(sum(of_waits), 1)
+        for section, key, wanted in (("talkgroups", "91", "1"), ("talkgroups", "92", "1"),
+                                     ("talkgroups", "94", "0"), ("radios", "1003", "1"),
+                                     ("radios", "1005", "1"), ("radios", "1001", "0")):
+            self.assertEqual(found[section, key, "joined"], wanted, key)
 
     def test_tables(self) -> None:
         """They are those of the crate, and sound. No row was removed."""

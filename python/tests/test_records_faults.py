@@ -148,7 +148,8 @@ class Played(Served):
             resource.prlimit(pid, resource.RLIMIT_FSIZE, (most, hard))
 
         site, before = site_of(**SLOW), limit if from_start else None
-        with self.serve(site, ["--terms", "1"], restore_signals=False, preexec_fn=before) as controller:
+        options = {"restore_signals": False, "preexec_fn": before}
+        with self.serve(site, ["--terms", "1"], **options) as controller:
             limit(controller.pid)
             player = Player(site)
             for step in CALL:
@@ -218,21 +219,24 @@ class CarriedOver(Played):
             if calls:
                 fill(conn, "calls", calls)
 
-    def contents(self, calls: str = "*") -> dict[str, list[tuple[Any, ...]]]:
-        """The rows of the tables that both versions have. `calls` are the columns of the calls."""
-        columns = {"terms": "*", "calls": calls, "events": "*", "registrations": "*", "removed": "*"}
-        return {it: self.rows(f"SELECT {columns[it]} FROM {it} ORDER BY 1") for it in columns}
+    def contents(self) -> dict[str, list[tuple[Any, ...]]]:
+        """The rows of the tables that both versions have."""
+        tables = ("terms", "calls", "events", "registrations", "removed")
+        return {it: self.rows(f"SELECT * FROM {it} ORDER BY 1") for it in tables}
 
     def expect_first_rows(self, term: int = 0) -> None:
         """The rows of version 1 are there, and the columns that it does not have are NULL. Others
         are of this term."""
         for table, rows in self.contents().items():
-            wanted = [(*it, None) for it in self.first[table]] if table == "calls" else self.first[table]
+            wanted = self.first[table]
+            if table == "calls":
+                wanted = [(*it, None) for it in wanted]
             self.assertEqual(rows[:len(wanted)], wanted, table)
+            more = rows[len(wanted):]
             if table in ("calls", "events"):
-                self.assertEqual({row[1] for row in rows[len(wanted):]}, {term} if term else set())
+                self.assertEqual({row[1] for row in more}, {term} if term else set(), table)
             else:
-                self.assertEqual(len(rows) - len(wanted), 1 if term and table == "terms" else 0, table)
+                self.assertEqual(len(more), 1 if term and table == "terms" else 0, table)
 
     def expect_version(self) -> None:
         """The tables are those of a new file, and sound."""

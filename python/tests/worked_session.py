@@ -71,7 +71,7 @@ RUNS = (
             "1001 joins", "1001 calls 93", "1005 joins", "1005 calls 94", "..", "1005 cancels 94",
             # it joins the call on carrier 0, slot 1
             "1005 calls 92",
-            # it waits for a slot again. Once the P_CLEAR was sent, the next tick gives it carrier 0,
+            # it waits for a slot again. The tick after the P_CLEAR was sent gives it carrier 0,
             # slot 0. Its grant is sent by the poll after `noise`
             "1005 calls 91", "..", "clear 0", *LONG, "say end 0 0",
             "say drop 1004", "say drop 999", "..", "noise", "active 1 1",
@@ -100,9 +100,9 @@ COUNTS = (
     ((0, 0, 0, 0), (0, 0, 0, 0, 0, 0, 0, 0)),
     ((0, 0, 0, 0), (0, 0, 0, 0, 0, 0, 0, 0)),
 )
-# term, carrier; polls, heard, noise, active. The radios are on carrier 1. It polls once with each of
-# their steps, with `noise` and with `active`. Carrier 0 polls up to the end of each term, and the
-# recording has how often: None
+# term, carrier; polls, heard, noise, active. The radios are on carrier 1. It polls once with each
+# of their steps, with `poll`, `noise` and `active`. Carrier 0 polls up to the end of each term, and
+# the recording has how often: None
 CARRIERS = (
     (1, 0, None, 0, 0, 0), (1, 1, 11, 7, 0, 0),
     (2, 0, None, 0, 0, 0), (2, 1, 5, 4, 0, 0),
@@ -112,9 +112,9 @@ CARRIERS = (
     (6, 0, None, 0, 0, 0), (6, 1, 0, 0, 0, 0),
     (7, 0, None, 0, 0, 0),
 )
-# term, carrier, slot, is_group, source, target; the step with which its request waited for a slot, or
-# None; the step with which the call began, or after whose tick it did if it had waited; that with
-# which it ended, or None for the tick after it began; cause
+# term, carrier, slot, is_group, source, target; the step from which on its request waited for a
+# slot, or None; the step with which the call began, or by the tick after which it did if it had
+# waited; that with which it ended, or None for the tick after it began; cause
 CALLS = (
     (2, 0, 0, 1, 1001, 91, None, "1001 calls 91", "0 is lost", "carrier_lost"),
     (2, 0, 0, 0, 1001, 1003, None, "1003 answers 1001", "say end 0 0", "ended_by_operator"),

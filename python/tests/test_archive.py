@@ -203,7 +203,9 @@ class Months(ArchiveCase):
             conn.executescript(text.replace("\\\n", ""))
             conn.execute("ATTACH ? AS made", [str(self.path)])
             for table in TIMES:
-                names = ", ".join(row[1] for row in conn.execute(f"PRAGMA table_info({table})"))
+                # those of the made tables, which are of version 1
+                made = conn.execute(f"PRAGMA made.table_info({table})")
+                names = ", ".join(row[1] for row in made)
                 conn.execute(f"INSERT INTO {table} ({names}) SELECT {names} FROM made.{table}")
         self.run_at(self.now)
         self.path = real

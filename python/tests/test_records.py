@@ -1,22 +1,29 @@
 """The file of records: docs/RECORDS.md, the tables that `dmr_records` makes, and the file that a
 served controller writes of a worked session."""
 import contextlib
+import csv
+import json
 import pathlib
 import re
 import sqlite3
 import tempfile
 import unittest
-from collections.abc import Iterator
+from collections import Counter
+from collections.abc import Callable, Iterator
 
+from temzaar.cli import archive, callbook, report
+from temzaar.hub.newrecords import SUMMED, read_new
 from tests.made_records import NOON, insert, make_records
-from tests.support import TOP, program, queries_of, read_document, table_rows
+from tests.support import TOP, call_tool, program, queries_of, read_document, table_rows
 from tests.worked_session import CALLS, EVENTS, REGISTRATIONS, RUNS, Columns, Session
 
-TABLES = ("schema_version", "terms", "calls", "events", "registrations", "removed")
+TABLES = ("schema_version", "terms", "calls", "events", "carriers", "registrations", "removed")
+# The names and the statements of the tables in a database.
+SCHEMA = "SELECT name, sql FROM sqlite_schema ORDER BY name"
 # In the made records radio 1001 also leaves, and joins again.
 MORE_EVENTS = (
-    (17, 3, 500, NOON + 130_000, "left", None, None, 1001, None, None, None, None),
-    (18, 3, 510, NOON + 130_600, "joined", None, None, 1001, None, None, None, None),
+    (27, 3, 500, NOON + 130_000, "left", None, None, 1001, None, None, None, None),
+    (28, 3, 510, NOON + 130_600, "joined", None, None, 1001, None, None, None, None),
 )
 IN_ORDER = ((1, 1002), (2, 1004), (3, 1001))
 # What each query of the document answers over the made records, which are of this day.
@@ -49,12 +56,27 @@ ANSWERS: tuple[list[Columns], ...] = (
 )
 
 
-def statements_of_tables() -> str:
-    """The statements that make the tables, as the crate's source has them."""
+def statements_of(name: str) -> str:
+    """The statements of a constant in the crate's source, as the compiler reads it."""
     source = (TOP / "crates/dmr_records/src/tables.rt").read_text(encoding="utf-8")
-    found = re.search(r'^const TABLES: &str = "(.*?)";$', source, re.M | re.S)
+    found = re.search(rf'^const {name}: &str = "(.*?)";$', source, re.M | re.S)
     assert found
     return re.sub(r"\\\n *", "", found[1])
+
+
+def statements_of_tables() -> str:
+    """The statements that make the tables of this version, and say which it is."""
+    return statements_of("TABLES")
+
+
+def statements_of_first() -> str:
+    """Those that made the tables of version 1: without `waited`, and without `carriers`."""
+    text = statements_of_tables()
+    for pattern, first in ((r", waited INTEGER\)", ")"), (r"CREATE TABLE carriers [^;]*;", ""),
+                           (r"VALUES \(2\)", "VALUES (1)")):
+        text, count = re.subn(pattern, first, text)
+        assert count == 1, pattern
+    return text
 
 
 @contextlib.contextmanager
@@ -80,8 +102,25 @@ class Documented(unittest.TestCase):
             self.assertEqual(listed, [[it[1], it[2]] for it in made], table)
 
     def test_each_table_is_described(self) -> None:
-        made = {it[0] for it in self.conn.execute("SELECT name FROM sqlite_schema")}
-        self.assertEqual(made, set(TABLES))
+        made = self.conn.execute("SELECT name FROM sqlite_schema WHERE type = 'table'")
+        self.assertEqual(sorted(it[0] for it in made), sorted(TABLES))
+
+    def test_version(self) -> None:
+        """The document says which it is. The statements that carry version 1 over make the tables
+        that a new file has, and keep rows."""
+        version = table_rows(self.document, "`schema_version` has")[0][1]
+        made = self.conn.execute("SELECT * FROM schema_version").fetchall()
+        self.assertEqual(made, [(int(version),)])
+        with opened(":memory:") as other:
+            other.executescript(statements_of_first())
+            self.assertEqual(other.execute("SELECT * FROM schema_version").fetchall(), [(1,)])
+            call = (7, 3, 1, 0, 1, 1001, 91, 20, 2000, 40, 4000, "maximum")
+            insert(other, "calls", (call,))
+            other.executescript(statements_of("CARRY_OVER"))
+            self.assertEqual(other.execute("SELECT * FROM calls").fetchall(), [(*call, None)])
+            self.assertEqual(other.execute("SELECT * FROM schema_version").fetchall(), made)
+            found, wanted = (it.execute(SCHEMA).fetchall() for it in (other, self.conn))
+            self.assertEqual(found, wanted)
 
     def test_words(self) -> None:
         causes = {row[0] for row in table_rows(self.document, "| cause |")}
@@ -93,14 +132,15 @@ class Documented(unittest.TestCase):
     def test_queries(self) -> None:
         """They answer over made records, and run over the tables of the crate."""
         queries = queries_of(self.document)
-        with tempfile.TemporaryDirectory() as folder, \
-                opened(make_records(pathlib.Path(folder, "made.db"))) as made:
-            insert(made, "events", MORE_EVENTS)
-            made.execute("DELETE FROM registrations")
-            insert(made, "registrations", IN_ORDER)
-            for query, answer in zip(queries, ANSWERS, strict=True):
-                self.assertEqual(made.execute(query).fetchall(), answer, query)
-                self.assertEqual(len(self.conn.execute(query).fetchall()), 0, query)
+        for version in (1, 2):
+            with tempfile.TemporaryDirectory() as folder, \
+                    opened(make_records(pathlib.Path(folder, "made.db"), version=version)) as made:
+                insert(made, "events", MORE_EVENTS)
+                made.execute("DELETE FROM registrations")
+                insert(made, "registrations", IN_ORDER)
+                for query, answer in zip(queries, ANSWERS, strict=True):
+                    self.assertEqual(made.execute(query).fetchall(), answer, (version, query))
+                    self.assertEqual(len(self.conn.execute(query).fetchall()), 0, query)
 
 
 class Written(unittest.TestCase):
@@ -127,9 +167,9 @@ class Written(unittest.TestCase):
         self.addCleanup(self.conn.close)
         self.ended_ms = [row[0] for row in self.rows("terms", "ended_ms")]
 
-    def rows(self, table: str, columns: str = "*") -> list[Columns]:
+    def rows(self, table: str, columns: str = "*", order: str = "1") -> list[Columns]:
         """The rows of a table, in the order of their first column."""
-        return self.conn.execute(f"SELECT {columns} FROM {table} ORDER BY 1").fetchall()
+        return self.conn.execute(f"SELECT {columns} FROM {table} ORDER BY {order}").fetchall()
 
     def test_terms(self) -> None:
         """Each ended between the times of day at which the player saw it go on, and over."""
@@ -144,20 +184,90 @@ class Written(unittest.TestCase):
     def test_events(self) -> None:
         self.assertEqual(self.rows("events"), self.session.event_rows(self.ended_ms))
 
+    def test_carriers(self) -> None:
+        """One that did nothing in a term has no row of it. Those of a term add up to its own."""
+        self.assertEqual(self.rows("carriers", order="1, 2"), self.session.carrier_rows())
+        counts = ("polls", "heard", "noise", "active")
+        summed = ", ".join(f"sum({it})" for it in counts)
+        sums = self.rows("carriers GROUP BY term", f"term, {summed}")
+        self.assertEqual(sums, self.rows("terms", f"number, {', '.join(counts)}"))
+
     def test_registrations(self) -> None:
         self.assertEqual(self.rows("registrations"), list(REGISTRATIONS))
 
     def test_runs_go_on_after_a_reader(self) -> None:
-        self.assertEqual(self.numbers, [[1, 2, 3, 4], [1, 2, 3, 4, 5], [1, 2, 3, 4, 5, 6]])
+        self.assertEqual(self.numbers, [[*range(1, 6)], [*range(1, 7)], [*range(1, 8)]])
+
+    def run_tool(self, main: Callable[[list[str]], int], *words: str) -> str:
+        """What a tool prints of the file."""
+        done = call_tool(main, "--records", str(self.path), *words)
+        self.assertEqual(done.returncode, 0, done.stderr)
+        return done.stdout
+
+    def test_callbook(self) -> None:
+        """It lists how long each call waited, and who joined it."""
+        found = json.loads(self.run_tool(callbook.main, "--format", "json"))
+        joined: dict[int, list[int]] = {1: [1003], 5: [1005]}
+        wanted = [(row[0], row[5], row[6], joined.get(row[0], []))
+                  for row in self.session.call_rows(self.ended_ms)]
+        self.assertEqual([(it["number"], it["source"], it["target"], it["joined"])
+                          for it in found], wanted)
+        # a tick of the run in which a call waited is 30 ms
+        for row, call in zip(self.rows("calls", "number, waited"), found, strict=True):
+            self.assertAlmostEqual(call["waited_seconds"], 0.03 * row[1], delta=0.001)
+
+    def test_archive(self) -> None:
+        """The months' files have all rows, and tables of the same version. A second run adds
+        nothing."""
+        with tempfile.TemporaryDirectory() as folder:
+            self.run_tool(archive.main, "--folder", folder)
+            self.assertEqual(self.run_tool(archive.main, "--folder", folder), "nothing to do\n")
+            for table in ("terms", "calls", "events", "carriers"):
+                found: set[Columns] = set()
+                for month in pathlib.Path(folder).iterdir():
+                    with opened(month) as conn:
+                        self.assertEqual(conn.execute("SELECT * FROM schema_version").fetchall(),
+                                         self.rows("schema_version"))
+                        found |= set(conn.execute(f"SELECT * FROM {table}"))
+                self.assertEqual(found, set(self.rows(table)), table)
+
+    def test_hub(self) -> None:
+        """What it counts, of all terms and of the last two."""
+        new = read_new(str(self.path), None)
+        self.assertEqual((new.terms, new.last and new.last.number), (7, 7))
+        sums = self.conn.execute(f"SELECT {', '.join(f'sum({it})' for it in SUMMED)} FROM terms")
+        self.assertEqual(tuple(new.sums.values()), sums.fetchone())
+        kinds = [("group" if row[4] else "radio", row[-2])
+                 for row in self.session.call_rows(self.ended_ms)]
+        self.assertEqual(new.calls, Counter(kinds))
+        self.assertEqual(sum(new.refusals.values()), 2)
+        self.assertEqual(len(new.newest), 7)
+
+    def test_report(self) -> None:
+        """Which calls waited, and what joined calls add to talkgroups and radios."""
+        days = self.conn.execute("SELECT date(min(began_ms) / 1000, 'unixepoch', 'localtime'), "
+                                 "date(max(ended_ms) / 1000, 'unixepoch', 'localtime') FROM calls")
+        first, last = days.fetchone()
+        text = self.run_tool(report.main, "--from", first, "--to", last, "--format", "csv")
+        found = {(it["section"], it["key"], it["measure"]): it["value"]
+                 for it in csv.DictReader(text.splitlines())}
+        self.assertEqual(found["waits", "none", "calls"], "6")
+        of_waits = [int(value) for (section, key, measure), value in found.items()
+                    if (section, measure) == ("waits", "calls") and key != "none"]
+        self.assertEqual(sum(of_waits), 1)
+        for section, key, wanted in (("talkgroups", "91", "1"), ("talkgroups", "92", "1"),
+                                     ("talkgroups", "94", "0"), ("radios", "1003", "1"),
+                                     ("radios", "1005", "1"), ("radios", "1001", "0")):
+            self.assertEqual(found[section, key, "joined"], wanted, key)
 
     def test_tables(self) -> None:
         """They are those of the crate, and sound. No row was removed."""
         self.assertEqual(self.rows("removed"), [(0, 0, 0)])
         self.assertEqual(self.conn.execute("PRAGMA integrity_check").fetchall(), [("ok",)])
+        self.assertEqual(self.rows("schema_version"), [(2,)])
         with opened(":memory:") as other:
             other.executescript(statements_of_tables())
-            tables = "SELECT name, sql FROM sqlite_schema ORDER BY name"
-            made, wanted = (it.execute(tables).fetchall() for it in (self.conn, other))
+            made, wanted = (it.execute(SCHEMA).fetchall() for it in (self.conn, other))
             self.assertEqual(made, wanted)
 
 

@@ -1,20 +1,23 @@
-"""A file of records that a served controller cannot use, or cannot write for a while, and how many
-rows the file keeps (docs/RECORDS.md). All of it is skipped if the program was not built."""
+"""A file of records that a served controller cannot use, or cannot write for a while, or carries
+over from version 1, and how many rows the file keeps (docs/RECORDS.md). All of it is skipped if the
+program was not built."""
 import pathlib
 import resource
 import sqlite3
 import subprocess
 import sys
 import tempfile
+import time
 import unittest
 from collections.abc import Sequence
 from typing import Any
 
 from temzaar.process import Controller
 from temzaar.sitefile import Site
+from tests.made_records import CALLS, EVENTS, REGISTRATIONS, TERMS, insert
 from tests.support import program
-from tests.test_records import opened, statements_of_tables
-from tests.worked_session import PATIENCE, Player, site_of
+from tests.test_records import SCHEMA, opened, statements_of_first, statements_of_tables
+from tests.worked_session import PATIENCE, Player, site_of, size_of
 
 # A program that reads a file of records, and stays connected until its input ends.
 READER = """\
@@ -33,6 +36,8 @@ CALL = ("0 comes up", "1 comes up", "1001 joins", "1001 calls 91", "say end 0 0"
 # What is noted if the file cannot be read at the start, and of the first term that is not written.
 NOT_READ = "no radio is registered again: "
 NOT_KEPT = "not kept, trying again with each term: "
+# How often a controller is killed over a file of version 1, and how many calls it has.
+KILLS, MANY_CALLS = 8, 5000
 # How many rows of each table stay. Older ones are removed with each 101st term.
 MOST_ROWS, REMOVES = 100_000, 101
 
@@ -81,7 +86,7 @@ class Faults(Served):
         self.assertTrue(self.path.read_bytes() == before)
 
     def test_newer_tables(self) -> None:
-        self.make(statements_of_tables() + "; INSERT INTO schema_version VALUES (2)")
+        self.make(statements_of_tables() + "; INSERT INTO schema_version VALUES (3)")
         self.expect_fault("a later version wrote the file")
 
     def test_other_tables(self) -> None:
@@ -131,21 +136,30 @@ class Faults(Served):
         self.assertEqual(terms, [(1, entries), *later])
 
 
-class Limits(Served):
-    """A file that may not grow, and one that has as many rows as it keeps."""
+class Played(Served):
+    """A controller that is served for a term with a call."""
 
-    def play_term(self, most: int) -> list[str]:
-        """Plays a term with a call, while no file may have more octets than `most`. What was noted
-        of the records. A write beyond that fails, since its signal stays ignored, as it is here."""
-        site = site_of(**SLOW)
-        with self.serve(site, ["--terms", "1"], restore_signals=False) as controller:
-            _, hard = resource.prlimit(controller.pid, resource.RLIMIT_FSIZE)
-            resource.prlimit(controller.pid, resource.RLIMIT_FSIZE, (most, hard))
+    def play_term(self, most: int, from_start: bool = False) -> list[str]:
+        """Plays a term with a call, while no file may have more octets than `most`, once the site
+        is served or from its start on. What was noted of the records. A write beyond that fails,
+        since its signal stays ignored, as it is here."""
+        def limit(pid: int = 0) -> None:
+            _, hard = resource.prlimit(pid, resource.RLIMIT_FSIZE)
+            resource.prlimit(pid, resource.RLIMIT_FSIZE, (most, hard))
+
+        site, before = site_of(**SLOW), limit if from_start else None
+        options = {"restore_signals": False, "preexec_fn": before}
+        with self.serve(site, ["--terms", "1"], **options) as controller:
+            limit(controller.pid)
             player = Player(site)
             for step in CALL:
                 player.take(step)
             player.play_to_end(controller)
-        return controller.find_in_notes("records: (not kept.*)")
+        return controller.find_in_notes("records: (no.*)")
+
+
+class Limits(Played):
+    """A file that may not grow, and one that has as many rows as it keeps."""
 
     def test_a_file_that_may_not_grow(self) -> None:
         """Each term is there whole or not at all: by the first limits it is not, by the last it
@@ -182,6 +196,126 @@ class Limits(Served):
             found = self.rows(f"SELECT min(number), count(*), max(number) FROM {table}")
             self.assertEqual(found, [(removed + 1, count, last)], table)
         self.assertEqual(self.rows("SELECT * FROM registrations"), [(1, 1001)])
+
+
+class CarriedOver(Played):
+    """A file of version 1 with rows."""
+
+    def setUp(self) -> None:
+        super().setUp()
+        self.make_first()
+        self.first = self.contents()
+
+    def make_first(self, calls: int = 0) -> None:
+        """Makes the file, with the made records. If `calls` says how many, it has so many calls."""
+        self.path.unlink(missing_ok=True)
+        self.make(statements_of_first())
+        with opened(self.path) as conn, conn:
+            insert(conn, "terms", TERMS)
+            insert(conn, "events", EVENTS)
+            insert(conn, "registrations", REGISTRATIONS)
+            # the made ones have their columns in another order
+            insert(conn, "calls", tuple((*it[:8], it[9], it[8], *it[10:]) for it in CALLS))
+            if calls:
+                fill(conn, "calls", calls)
+
+    def contents(self) -> dict[str, list[tuple[Any, ...]]]:
+        """The rows of the tables that both versions have."""
+        tables = ("terms", "calls", "events", "registrations", "removed")
+        return {it: self.rows(f"SELECT * FROM {it} ORDER BY 1") for it in tables}
+
+    def expect_first_rows(self, term: int = 0) -> None:
+        """The rows of version 1 are there, and the columns that it does not have are NULL. Others
+        are of this term."""
+        for table, rows in self.contents().items():
+            wanted = self.first[table]
+            if table == "calls":
+                wanted = [(*it, None) for it in wanted]
+            self.assertEqual(rows[:len(wanted)], wanted, table)
+            more = rows[len(wanted):]
+            if table in ("calls", "events"):
+                self.assertEqual({row[1] for row in more}, {term} if term else set(), table)
+            else:
+                self.assertEqual(len(more), 1 if term and table == "terms" else 0, table)
+
+    def expect_version(self) -> None:
+        """The tables are those of a new file, and sound."""
+        self.assertEqual(self.rows("SELECT * FROM schema_version"), [(2,)])
+        self.assertEqual(self.rows("PRAGMA integrity_check"), [("ok",)])
+        with opened(":memory:") as other:
+            other.executescript(statements_of_tables())
+            self.assertEqual(self.rows(SCHEMA), other.execute(SCHEMA).fetchall())
+
+    def test_by_the_start(self) -> None:
+        """The radios are registered again."""
+        with self.serve(site_of(**SLOW)) as controller:
+            pass
+        self.assertEqual(controller.find_in_notes("records: (.*)"), ["3 radios registered again"])
+        self.expect_version()
+        self.expect_first_rows()
+        self.assertEqual(self.rows("SELECT * FROM carriers"), [])
+
+    def test_the_next_term(self) -> None:
+        """It has the next numbers, and what version 1 does not have. A start after it finds tables
+        of this version."""
+        self.assertEqual(self.play_term(1 << 20), [])
+        self.expect_version()
+        self.expect_first_rows(4)
+        calls = self.rows("SELECT number, source, target, waited FROM calls WHERE term = 4")
+        self.assertEqual(calls, [(6, 1001, 91, 0)])
+        counts = self.rows("SELECT term, carrier, heard, noise, active FROM carriers ORDER BY 2")
+        self.assertEqual(counts, [(4, 0, 0, 0, 0), (4, 1, 2, 0, 0)])
+        self.assertEqual(self.run_terms(1), ["3 radios registered again"])
+        self.assertEqual(self.rows("SELECT max(number) FROM terms"), [(5,)])
+        self.expect_version()
+
+    def test_a_file_that_may_not_grow(self) -> None:
+        """It is carried over whole or not at all."""
+        noted, refused = list[bool](), "the disk failed or refused a read or a write"
+        for most in (0, 16_384, 32_768, 65_536, 1 << 20):
+            self.make_first()
+            noted.append(NOT_KEPT + refused in self.play_term(most, from_start=True))
+            versions = self.rows("SELECT * FROM schema_version")
+            self.assertEqual(self.rows("PRAGMA integrity_check"), [("ok",)], most)
+            if versions == [(1,)]:
+                self.assertEqual(self.contents(), self.first, most)
+            else:
+                self.expect_version()
+                self.expect_first_rows(0 if noted[-1] else 4)
+        self.assertEqual((noted[0], noted[-1]), (True, False))
+
+    def kill(self, controller: Controller, number: int) -> None:
+        """Kills a controller: the first at once, the last when it is served, and the others some
+        milliseconds after its log has a page, or after its file was read."""
+        log = pathlib.Path(f"{self.path}-wal")
+        if number == KILLS - 1:
+            controller.wait_until_served()
+        elif number > 0:
+            while size_of(log) < 4096 and not controller.find_in_notes("records: (.*)"):
+                time.sleep(0.0005)
+            time.sleep(0.003 * (number - 1))
+        controller.process.kill()
+        controller.process.wait(PATIENCE)
+
+    def test_kills(self) -> None:
+        """After a kill, at any moment of it, the file has either version, whole. The next start
+        carries it over."""
+        versions, site, variables = list[int](), site_of(**SLOW), {"STATE_DIRECTORY": self.folder}
+        for number in range(KILLS):
+            self.make_first(MANY_CALLS)
+            self.first = self.contents()
+            with Controller(self.built, site, [], variables) as controller:
+                self.kill(controller, number)
+            self.assertEqual(self.rows("PRAGMA integrity_check"), [("ok",)])
+            [(version,)] = self.rows("SELECT * FROM schema_version")
+            versions.append(version)
+            if version == 1:
+                self.assertEqual(self.contents(), self.first, number)
+                with self.serve(site):
+                    pass
+            self.expect_version()
+            self.expect_first_rows()
+        self.assertEqual((versions[0], versions[-1]), (1, 2))
 
 
 def fill(conn: sqlite3.Connection, table: str, count: int) -> None:

@@ -5,8 +5,9 @@ their radios and an operator. The rows were worked out by hand, from docs/RECORD
 SITE_MACHINE.md. One thing cannot be: the ticks at which the steps come. The controller records
 itself meanwhile, and the recording has the ticks between all that was sent.
 
-There are three runs of the controller over one file. In the first, of three terms, no tick has an
-effect. In each of the others the first tick after a call began ends it.
+There are three runs of the controller over one file. In the first, of three terms, one tick has an
+effect: it grants a slot to a request that waited. In each of the others the first tick after a call
+began ends it. In the last two terms no radio speaks.
 """
 import contextlib
 import pathlib
@@ -42,14 +43,16 @@ class Run(NamedTuple):
     terms: tuple[tuple[str, ...], ...]
 
 
+# Ticks come meanwhile, also if the machine stalls for a while.
+LONG = ("..",) * 20
 # A step of a radio, and `noise`, is a burst on the control slot and a poll of its carrier. With
 # `..` some ticks pass.
 RUNS = (
     Run({"tick_ms": 30, "hang": NEVER, "maximum": NEVER}, (
         (
             "0 comes up", "..", "1 comes up", "1001 joins", "1002 joins", "..", "1003 joins",
-            # it begins on carrier 0, slot 0
-            "1001 calls 91",
+            # it begins on carrier 0, slot 0; 1003 joins it, and 1001 is sent its grant again
+            "1001 calls 91", "..", "1003 calls 91", "..", "1001 repeats 91",
             "1002 calls 99", "say drop 1002", "..",
             # three C_ALOHAs and a late entry
             "poll 1", "poll 1", "poll 1", "poll 1",
@@ -66,6 +69,11 @@ RUNS = (
             # The P_CLEAR waits for carrier 0, slot 0. So this begins on carrier 1, slot 1, and the
             # next request waits for a slot
             "1001 joins", "1001 calls 93", "1005 joins", "1005 calls 94", "..", "1005 cancels 94",
+            # it joins the call on carrier 0, slot 1
+            "1005 calls 92",
+            # it waits for a slot again. The tick after the P_CLEAR was sent gives it carrier 0,
+            # slot 0. Its grant is sent by the poll after `noise`
+            "1005 calls 91", "..", "clear 0", *LONG, "say end 0 0",
             "say drop 1004", "say drop 999", "..", "noise", "active 1 1",
         ),
     )),
@@ -75,27 +83,46 @@ RUNS = (
     )),
     Run({"tick_ms": 20, "hang": NEVER, "maximum": 1}, (
         ("0 comes up", "1 comes up", "..", "1005 calls 92", "clear 0"),
+        # carrier 1 does nothing else in this term, and nothing at all in the next one
+        ("..", "1 is lost"),
+        (),
     )),
 )
 
 # heard, requests, noise, active; commands, grants, late_entries, registrations, refusals, begun,
 # ended, most_lines. The answer of a called radio counts as heard, and not as a request
 COUNTS = (
-    ((5, 5, 0, 0), (1, 1, 1, 3, 1, 1, 0, 0)),
+    ((7, 7, 0, 0), (1, 3, 1, 3, 1, 1, 0, 0)),
     ((4, 3, 0, 0), (5, 2, 0, 1, 0, 2, 2, 0)),
-    ((8, 7, 1, 1), (2, 2, 0, 2, 0, 2, 2, 1)),
+    ((10, 9, 1, 1), (3, 4, 0, 2, 0, 3, 3, 1)),
     ((2, 2, 0, 0), (0, 1, 0, 0, 1, 1, 1, 0)),
     ((1, 1, 0, 0), (0, 1, 0, 0, 0, 1, 1, 0)),
+    ((0, 0, 0, 0), (0, 0, 0, 0, 0, 0, 0, 0)),
+    ((0, 0, 0, 0), (0, 0, 0, 0, 0, 0, 0, 0)),
 )
-# term, carrier, slot, is_group, source, target; the step with which the call began; that with which
-# it ended, or None for the tick after it began; cause
+# term, carrier; polls, heard, noise, active. The radios are on carrier 1. It polls once with each
+# of their steps, with `poll`, `noise` and `active`. Carrier 0 polls up to the end of each term, and
+# the recording has how often: None
+CARRIERS = (
+    (1, 0, None, 0, 0, 0), (1, 1, 11, 7, 0, 0),
+    (2, 0, None, 0, 0, 0), (2, 1, 5, 4, 0, 0),
+    (3, 0, None, 0, 0, 0), (3, 1, 13, 10, 1, 1),
+    (4, 0, None, 0, 0, 0), (4, 1, 2, 2, 0, 0),
+    (5, 0, None, 0, 0, 0), (5, 1, 1, 1, 0, 0),
+    (6, 0, None, 0, 0, 0), (6, 1, 0, 0, 0, 0),
+    (7, 0, None, 0, 0, 0),
+)
+# term, carrier, slot, is_group, source, target; the step from which on its request waited for a
+# slot, or None; the step with which the call began, or by the tick after which it did if it had
+# waited; that with which it ended, or None for the tick after it began; cause
 CALLS = (
-    (2, 0, 0, 1, 1001, 91, "1001 calls 91", "0 is lost", "carrier_lost"),
-    (2, 0, 0, 0, 1001, 1003, "1003 answers 1001", "say end 0 0", "ended_by_operator"),
-    (3, 0, 0, 0, 1003, 1001, "1001 answers 1003", "1001 leaves", "radio_left"),
-    (3, 0, 1, 1, 1004, 92, "1004 calls 92", "say drop 1004", "dropped"),
-    (4, 0, 0, 1, 1001, 94, "1001 calls 94", None, "hang_time"),
-    (5, 0, 0, 1, 1005, 92, "1005 calls 92", None, "maximum"),
+    (2, 0, 0, 1, 1001, 91, None, "1001 calls 91", "0 is lost", "carrier_lost"),
+    (2, 0, 0, 0, 1001, 1003, None, "1003 answers 1001", "say end 0 0", "ended_by_operator"),
+    (3, 0, 0, 0, 1003, 1001, None, "1001 answers 1003", "1001 leaves", "radio_left"),
+    (3, 0, 0, 1, 1005, 91, "1005 calls 91", "clear 0", "say end 0 0", "ended_by_operator"),
+    (3, 0, 1, 1, 1004, 92, None, "1004 calls 92", "say drop 1004", "dropped"),
+    (4, 0, 0, 1, 1001, 94, None, "1001 calls 94", None, "hang_time"),
+    (5, 0, 0, 1, 1005, 92, None, "1005 calls 92", None, "maximum"),
 )
 # term, step; kind, carrier, slot, radio, target, channel, reason, reply
 EVENTS = (
@@ -105,6 +132,7 @@ EVENTS = (
     (1, "say drop 1002", "dropped", None, None, 1002, None, None, None, None),
     (1, "0 comes up", "came_up", 0, None, None, None, None, None, None),
     (1, "1 comes up", "came_up", 1, None, None, None, None, None, None),
+    (1, "1003 calls 91", "joined_call", 0, 0, 1003, 91, None, None, None),
     (1, "1002 calls 99", "refused", None, None, 1002, 99, None, 0x2F, None),
     (1, "say drop 1002", "drop_command", None, None, 1002, None, None, None, "done"),
     (2, "1004 joins", "joined", None, None, 1004, None, None, None, None),
@@ -119,6 +147,8 @@ EVENTS = (
     (3, "1001 joins", "joined", None, None, 1001, None, None, None, None),
     (3, "1005 joins", "joined", None, None, 1005, None, None, None, None),
     (3, "say drop 1004", "dropped", None, None, 1004, None, None, None, None),
+    (3, "1005 calls 92", "joined_call", 0, 1, 1005, 92, None, None, None),
+    (3, "say end 0 0", "end_command", 0, 0, None, None, None, None, "done"),
     (3, "say drop 1004", "drop_command", None, None, 1004, None, None, None, "done"),
     (3, "say drop 999", "drop_command", None, None, 999, None, None, None, "not_registered"),
     (4, "0 comes up", "came_up", 0, None, None, None, None, None, None),
@@ -126,6 +156,7 @@ EVENTS = (
     (4, "1002 calls 91", "refused", None, None, 1002, 91, None, 0x2D, None),
     (5, "0 comes up", "came_up", 0, None, None, None, None, None, None),
     (5, "1 comes up", "came_up", 1, None, None, None, None, None, None),
+    (6, "1 is lost", "was_lost", 1, None, None, None, None, None, None),
 )
 # 1002 and 1004 were dropped, and 1001 joined again after the others
 REGISTRATIONS = ((1, 1003), (2, 1001), (3, 1005))
@@ -169,7 +200,7 @@ class Player:
                 self.request(pdus.REGISTRATION, regi, int(radio), self.site.register_options())
             case [radio, "leaves"]:
                 self.request(pdus.REGISTRATION, regi, int(radio))
-            case [radio, "calls", group]:
+            case [radio, "calls" | "repeats", group]:
                 self.request(pdus.TALKGROUP_VOICE, int(group), int(radio))
             case [radio, "rings", other]:
                 self.request(pdus.INDIVIDUAL_VOICE, int(other), int(radio))
@@ -244,11 +275,12 @@ class Step(NamedTuple):
 
 
 class Term(NamedTuple):
-    """What a recording says of a term, and times of day before and after the term's end."""
+    """What a recording says of a term, with the polls of each carrier, and times of day before and
+    after the term's end."""
     tick_ms: int
     last_tick: int
     ticks: int
-    polls: int
+    polls: tuple[int, int]
     before_ms: int
     after_ms: int
 
@@ -260,7 +292,10 @@ def now_ms() -> int:
 
 def size_of(path: pathlib.Path) -> int:
     """The octets of a file; 0 if there is none yet."""
-    return path.stat().st_size if path.exists() else 0
+    try:
+        return path.stat().st_size
+    except FileNotFoundError:
+        return 0
 
 
 def without_noise(given: Input) -> Input:
@@ -345,9 +380,9 @@ class Session:
         for number, (before_ms, after_ms) in enumerate(pairwise(times), 1):
             past = entries[:number * ENTRIES]
             own = past[-ENTRIES:]
-            polls = sum(it.octets == POLL for it in own)
+            polls = tuple(own.count(Input("bytes", it, POLL)) for it in (0, 1))
             ticks = (past.count(TICK), own.count(TICK))
-            self.terms.append(Term(tick_ms, *ticks, polls, before_ms, after_ms))
+            self.terms.append(Term(tick_ms, *ticks, (polls[0], polls[1]), before_ms, after_ms))
 
     def ms_of(self, tick: int, number: int, ended_ms: Sequence[int]) -> int:
         """The time of day of a tick, as the records of a term have it."""
@@ -359,18 +394,31 @@ class Session:
         rows = list[Columns]()
         for number, (term, (events, others)) in enumerate(zip(self.terms, COUNTS, strict=True)):
             rows.append((number + 1, ended_ms[number], term.tick_ms, term.last_tick, ENTRIES,
-                         *events, term.polls, term.ticks, *others))
+                         *events, sum(term.polls), term.ticks, *others))
         return rows
 
     def call_rows(self, ended_ms: Sequence[int]) -> list[Columns]:
         """The rows of `calls`, likewise."""
         rows = list[Columns]()
-        for number, (term, *parties, began, ended, cause) in enumerate(CALLS, 1):
-            first = next(tick for (_, step), tick in self.ticks.items() if step == began)
+        for number, (term, *parties, asked, began, ended, cause) in enumerate(CALLS, 1):
+            first = self.last_tick(began, term)
+            waited = 0
+            if asked:
+                first += 1
+                waited = first - self.last_tick(asked, term)
             last = self.ticks[term, ended] if ended else first + 1
             first_ms, last_ms = (self.ms_of(it, term, ended_ms) for it in (first, last))
-            rows.append((number, term, *parties, first, first_ms, last, last_ms, cause))
+            rows.append((number, term, *parties, first, first_ms, last, last_ms, cause, waited))
         return rows
+
+    def last_tick(self, text: str, term: int) -> int:
+        """The tick of the last step of this text up to a term."""
+        return self.ticks[max(it for it in self.ticks if it[0] <= term and it[1] == text)]
+
+    def carrier_rows(self) -> list[Columns]:
+        """The rows of `carriers`."""
+        return [(term, carrier, self.terms[term - 1].polls[carrier] if polls is None else polls,
+                 *others) for term, carrier, polls, *others in CARRIERS]
 
     def event_rows(self, ended_ms: Sequence[int]) -> list[Columns]:
         """The rows of `events`, likewise."""

@@ -207,7 +207,7 @@ class CarriedOver(Played):
         self.first = self.contents()
 
     def make_first(self, calls: int = 0) -> None:
-        """Makes the file, with the made records. If `calls` says how many, it has so many calls."""
+        """Makes the file, with the made records. `calls` is how many calls it has, if not as many as were made."""
         self.path.unlink(missing_ok=True)
         self.make(statements_of_first())
         with opened(self.path) as conn, conn:

@@ -71,7 +71,7 @@ RUNS = (
             "1001 joins", "1001 calls 93", "1005 joins", "1005 calls 94", "..", "1005 cancels 94",
             # it joins the call on carrier 0, slot 1
             "1005 calls 92",
-            # it waits for a slot again. The tick after the P_CLEAR was sent gives it carrier 0,
+            # it waits for a slot again. By the tick after the P_CLEAR was sent it has carrier 0,
             # slot 0. Its grant is sent by the poll after `noise`
             "1005 calls 91", "..", "clear 0", *LONG, "say end 0 0",
             "say drop 1004", "say drop 999", "..", "noise", "active 1 1",
@@ -112,9 +112,9 @@ CARRIERS = (
     (6, 0, None, 0, 0, 0), (6, 1, 0, 0, 0, 0),
     (7, 0, None, 0, 0, 0),
 )
-# term, carrier, slot, is_group, source, target; the step from which on its request waited for a
-# slot, or None; the step with which the call began, or by the tick after which it did if it had
-# waited; that with which it ended, or None for the tick after it began; cause
+# Term, carrier, slot, is_group, source, target. Then the step from which on its request waited for
+# a slot, or None. The step with which the call began, or by the tick after which it did if it had
+# waited. That with which it ended, or None for the tick after it began; the cause
 CALLS = (
     (2, 0, 0, 1, 1001, 91, None, "1001 calls 91", "0 is lost", "carrier_lost"),
     (2, 0, 0, 0, 1001, 1003, None, "1003 answers 1001", "say end 0 0", "ended_by_operator"),

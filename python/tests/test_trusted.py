@@ -54,6 +54,23 @@ Counts. Definitions: 2; 2 new, of 6 lines.
 
 2 definitions of the 3 in `specs/`, 6 lines; 1 types; 0 traits; 0 words of the library.
 """
+LAW = """
+/// Does nothing.
+pub fn smalls()
+    // There is no other.
+    ensures alone { (n : ℕ) → IsSmall n ↔ n ≤ other }
+{}
+"""
+BY_LAW = """
+- one: Numbers (other), src (Kind)
+
+## Functions that need not be read
+The clauses leave each of them one value. What the clauses use is listed above.
+
+- `one::IsSmall`: `one::smalls.alone`
+
+1 definitions of the 3 in `specs/`, 3 lines; 1 types; 0 traits; 0 words of the library.
+"""
 TEXT = """\
 - `one/specs/Numbers.antt`: most IsSmall
 
@@ -111,6 +128,16 @@ class Trusted(unittest.TestCase):
         path = self.top / "crates/one/specs/Numbers.antt"
         path.write_text(NUMBERS.replace("n ≤ most", "n ≤ most + other"), encoding="utf-8")
         self.assertIn("- one: Numbers (most other IsSmall), src (Kind)\n", self.printed())
+
+    def test_what_a_law_says(self) -> None:
+        """The text of a function that a law says is not followed, but the law's clauses are, which are printed with the texts."""
+        code = CODE.replace("{IsSmall}", "{IsSmall, other}") + LAW
+        (self.top / "crates/one/src/lib.rt").write_text(code, encoding="utf-8")
+        with mock.patch.dict(tool.LAWS, {"one::IsSmall": ("one::smalls", "alone")}):
+            self.assertTrue(self.printed().endswith(BY_LAW), self.printed())
+            self.assertIn("`one::smalls.alone`\n\n```\n    ensures alone { (n : ℕ) → IsSmall n ↔ n ≤ other }\n```\n", self.printed(True))
+        with mock.patch.dict(tool.LAWS, {"one::IsSmall": ("one::smalls", "none")}), self.assertRaises(SystemExit):
+            self.printed()
 
     def test_refusals(self) -> None:
         self.assertEqual(self.faults("the list", "It is of 2 definitions\nof 6 lines."), [])

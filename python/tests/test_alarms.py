@@ -25,7 +25,7 @@ METRICS = {**LABELS, "up": set(), **{f"{name}_bucket": {"le"} for name in HISTOG
 # Labels that each series has in Prometheus, the last one if the target has it (deploy/prometheus/scrape.yml).
 OF_PROMETHEUS = {"job", "instance", "site"}
 # The words of PromQL that the expressions use.
-WORDS = {"and", "or", "sum", "rate", "increase", "absent", "time", "histogram_quantile", "max_over_time"}
+WORDS = {"and", "or", "sum", "rate", "increase", "changes", "absent", "time", "histogram_quantile", "max_over_time"}
 CLAUSES = r"\b(?:by|without|ignoring)\s*\(([^)]*)\)"
 # The panels and units that the dashboard uses, of those that Grafana has since version 8 by itself.
 PANELS = {"stat", "timeseries", "state-timeline"}

@@ -27,9 +27,7 @@ class Table(unittest.TestCase):
             self.assertEqual(bits, list(range(16, 80)), name)
 
     def test_reasons(self) -> None:
-        said = {}
-        for row in table_rows(FORMATS, "**Reasons**"):
-            said.update({int(octet, 16): name for name, octet in zip(row[::2], row[1::2])})
+        said = {int(octet, 16): name for name, octet, _ in table_rows(FORMATS, "### Reasons")}
         self.assertEqual({octet: reason.name for octet, reason in pdus.REASONS.items()}, said)
 
     def test_kinds(self) -> None:

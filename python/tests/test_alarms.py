@@ -10,7 +10,7 @@ from typing import Any
 
 from tests.hub_support import wait_until
 from tests.made_records import make_records
-from tests.support import TOP, metric_rows, read_document, table_rows
+from tests.support import TOP, metric_rows, read_document
 from tests.test_hub_web import WebCase
 
 RULES = TOP / "deploy" / "prometheus" / "dmr_site.rules.yml"

@@ -295,7 +295,3 @@ class ControllerProfile(Services):
             Profile(profile_text("dmr_trunk", "/*.txt rw,", "/*.txt w,")).refused(needs),
             [Need("/var/lib/dmr_trunk/site-1.txt", "r")],
         )
-
-
-if __name__ == "__main__":
-    unittest.main()

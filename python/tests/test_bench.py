@@ -29,7 +29,3 @@ class InC(unittest.TestCase):
     def test_the_coders_agree_with_their_reference(self) -> None:
         printed = subprocess.run([f"{self.folder}/bptc_tables", "--check", "3000"], check=True, capture_output=True, text=True, timeout=60).stdout
         self.assertTrue(printed.startswith("checked 3000 words"), printed)
-
-
-if __name__ == "__main__":
-    unittest.main()

@@ -98,7 +98,3 @@ class Run(unittest.TestCase):
         self.assertRegex(done.stdout, r"(?m)^carriers 2 of 2 up   radios 10   .*   calls [123] ")
         self.assertRegex(done.stdout, r"(?m)^\d+ polls of 2 carriers answered in \d+ s: ")
         self.assertRegex(done.stdout, r"(?m)^controller: term ended: 3000 entries, ")
-
-
-if __name__ == "__main__":
-    unittest.main()

@@ -42,7 +42,3 @@ class Profiles(unittest.TestCase):
     def test_other_events_are_refused(self) -> None:
         with self.assertRaises(BadProfile):
             read_profile(SAMPLE.replace("events: Ir", "events: Ir Dr"))
-
-
-if __name__ == "__main__":
-    unittest.main()

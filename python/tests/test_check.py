@@ -120,7 +120,3 @@ class Parts(unittest.TestCase):
     def test_command_that_is_not_there(self) -> None:
         _, lines = self.run_parts([check.Check("toolchain", ["ci/no-such-command"], 1)])
         self.assertIn("FAILED  toolchain (0 s): ci/no-such-command: No such file or directory;", lines[0])
-
-
-if __name__ == "__main__":
-    unittest.main()

@@ -237,7 +237,3 @@ class Promises(unittest.TestCase):
         """The section "By crate" names each crate that is not one of tests."""
         section = (TOP / "docs/GUARANTEES.md").read_text(encoding="utf-8").partition("\n## By crate\n")[2].partition("\n## ")[0]
         self.assertEqual([it.name for it in sorted((TOP / "crates").glob("dmr_*")) if f"`{it.name}`" not in section], [])
-
-
-if __name__ == "__main__":
-    unittest.main()

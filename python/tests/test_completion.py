@@ -68,7 +68,3 @@ class Completion(unittest.TestCase):
             with self.subTest(words):
                 self.assertEqual(completed(words), ["sites/two_carriers.toml"])
         self.assertEqual(completed(["dmr_callbook", "--names", "sites/"]), ["sites/names.csv"])
-
-
-if __name__ == "__main__":
-    unittest.main()

@@ -231,7 +231,3 @@ class Document(unittest.TestCase):
         source = TestSource()
         bursts = [line[2:] for line in source.text.splitlines() if line and not line.endswith("voice")]
         self.assertIsNone(first_difference(ask(f"take {it}" for it in bursts), [f"0 0 1 3 {it.word.hex().upper()}" for it in source.bursts]))
-
-
-if __name__ == "__main__":
-    unittest.main()

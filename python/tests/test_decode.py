@@ -346,7 +346,3 @@ class Judged(unittest.TestCase):
             assert shown
             burst = self.ask(*shown[1].split(" ")).stdout.split("burst ")[1].strip()
             self.assertIn("act: radio 1001 is registered\n", self.judge(f"open 0\nbytes 0 {hello(0, 1, 1).hex()}\nbytes 0 021A00{burst}\n"))
-
-
-if __name__ == "__main__":
-    unittest.main()

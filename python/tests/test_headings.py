@@ -29,7 +29,3 @@ class Headings(unittest.TestCase):
         for name, text in (("Lib", "pub mod Second\npub mod First\npub mod Lost\nmod Silent\n"), ("First", "-- Counts\n-- ticks.\nuse A\n-- more\n"), ("Second", "-- Adds.\n"), ("Silent", "use A\n-- late\n")):
             (proofs / f"{name}.antt").write_text(text, encoding="utf-8")
         self.assertEqual(list(lemma_files(self.folder)), [("Second", "Adds."), ("First", "Counts ticks."), ("Lost", ""), ("Silent", "")])
-
-
-if __name__ == "__main__":
-    unittest.main()

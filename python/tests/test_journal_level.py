@@ -43,7 +43,3 @@ class JournalLevel(unittest.TestCase):
         for stream in (None, "", "1:2", "STREAM:", "STREAM0", "x:y"):
             with self.subTest(stream):
                 self.assertEqual(self.notes(stream), ["[INFO  ", "[WARN  "])
-
-
-if __name__ == "__main__":
-    unittest.main()

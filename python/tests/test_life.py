@@ -12,10 +12,9 @@ from typing import Any
 from temzaar import code, pdus
 from temzaar.console import Console
 from temzaar.frames import POLL, hello, rx
-from temzaar.process import Controller, connect
-from temzaar.sitefile import FREE_PORTS, Site
-from tests.support import SITES, TWO_CARRIERS, program
-from tests.test_served import Carrier
+from temzaar.process import connect
+from tests.served_kit import Carrier, free_site, received, served
+from tests.support import SITES, TWO_CARRIERS
 
 SIXTEEN_CARRIERS = str(SITES / "sixteen_carriers.toml")
 # the seconds after which an answer, an end or a note is late even on a busy machine
@@ -24,23 +23,13 @@ PATIENCE = 120
 LONG = 600
 
 
-def received(stream: socket.socket) -> bytes:
-    """All octets up to the end of a connection. ConnectionResetError: it is reset."""
-    octets = b""
-    while piece := stream.recv(65536):
-        octets += piece
-    return octets
-
-
 class Served(unittest.TestCase):
     """A site, and its controller."""
 
     def serve(self, *words: str, path: str = TWO_CARRIERS, **changes: Any) -> None:
         """Serves the site of a file with changed keys, by these further words of the command line."""
-        self.site = Site(path, first_port=FREE_PORTS, **changes)
-        self.controller = Controller(program("dmr_trunk"), self.site, words)
-        self.addCleanup(self.controller.stop)
-        self.controller.wait_until_served()
+        self.site = free_site(path, **changes)
+        self.controller = self.enterContext(served(self.site, *words))
 
     def carrier(self, number: int) -> Carrier:
         """A carrier that was welcome."""

@@ -47,7 +47,3 @@ class LongFiles(unittest.TestCase):
         self.path.touch()
         os.truncate(self.path, 1024 * MIB + 1)
         self.assertEqual(self.run_program("dmr_trunk", "--site", TWO_CARRIERS, "--script", str(self.path)), (1, f"dmr_trunk: {self.path} has more than 1024 MiB\n"))
-
-
-if __name__ == "__main__":
-    unittest.main()

@@ -304,7 +304,3 @@ class Console(unittest.TestCase):
         self.assertEqual([entry.tags[0] for entry in entries_of(sections_of("dmr_trunk.8")["CONSOLE"])], wanted)
         own = [row[0].split()[0].rstrip(",") for row in table_rows(read_document("HUB.md"), "| line | reply")]
         self.assertEqual([entry.tags[0].split()[0] for entry in entries_of(sections_of("dmr_hub.8")["CONSOLE"])], own)
-
-
-if __name__ == "__main__":
-    unittest.main()

@@ -150,7 +150,3 @@ class Shown(unittest.TestCase):
         for name in ("=1+1", "+1", "-1", "@a"):
             self.assertEqual(safe_cell(parse(f"radio,1,{name}").names.name_of(Kind.RADIO, 1)), f"'{name}")
         self.assertEqual(next(csv.reader(["'=1+1"])), ["'=1+1"])
-
-
-if __name__ == "__main__":
-    unittest.main()

@@ -183,7 +183,3 @@ class Advice(unittest.TestCase):
             self.assertEqual((most_net, most_site, int(found[2]), net_bits + site_bits), (2 ** net_bits - 1, 2 ** site_bits - 1, 4 << site_bits, 12))
         self.assertIn("0x4000 + 5 × 128 + 2 × 4 + 3 = 0x428B", self.PAGE)
         self.assertEqual(0x4000 + 5 * 128 + 2 * 4 + 3, 0x428B)
-
-
-if __name__ == "__main__":
-    unittest.main()

@@ -115,7 +115,3 @@ class Played(unittest.TestCase):
         play = Play(site, Options())
         play.receive_burst(SilentCarrier(site), 0, code.burst_of(ALOHA, [5]), 1.0)
         self.assertEqual(sum(play.faults.values()), 1)
-
-
-if __name__ == "__main__":
-    unittest.main()

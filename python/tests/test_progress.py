@@ -210,7 +210,3 @@ class Durations(unittest.TestCase):
                               (59 * 60, "59 min"), (60 * 60, "1 h"), (107 * 60, "1 h 50 min")):
             with self.subTest(seconds):
                 self.assertEqual(progress.duration(seconds), text)
-
-
-if __name__ == "__main__":
-    unittest.main()

@@ -1,6 +1,5 @@
 """The file of records: docs/RECORDS.md, the tables that `dmr_records` makes, and the file that a
 served controller writes of a worked session."""
-import contextlib
 import csv
 import json
 import pathlib
@@ -9,12 +8,12 @@ import sqlite3
 import tempfile
 import unittest
 from collections import Counter
-from collections.abc import Callable, Iterator
+from collections.abc import Callable
 
 from temzaar.cli import archive, callbook, report
 from temzaar.hub.newrecords import SUMMED, read_new
-from tests.made_records import NOON, insert, make_records
-from tests.support import TOP, call_tool, program, queries_of, read_document, table_rows
+from tests.made_records import NOON, insert, make_records, opened
+from tests.support import TOP, call_tool, queries_of, read_document, table_rows
 from tests.worked_session import CALLS, EVENTS, REGISTRATIONS, RUNS, Columns, Session
 
 TABLES = ("schema_version", "terms", "calls", "events", "carriers", "registrations", "removed")
@@ -79,13 +78,6 @@ def statements_of_first() -> str:
     return text
 
 
-@contextlib.contextmanager
-def opened(path: pathlib.Path | str) -> Iterator[sqlite3.Connection]:
-    """The database, closed at the end."""
-    with contextlib.closing(sqlite3.connect(path)) as conn:
-        yield conn
-
-
 class Documented(unittest.TestCase):
     """The document says what the tables are, and its queries answer what was worked out."""
 
@@ -148,10 +140,9 @@ class Written(unittest.TestCase):
 
     @classmethod
     def setUpClass(cls) -> None:
-        folder = tempfile.TemporaryDirectory()
-        cls.addClassCleanup(folder.cleanup)
-        cls.session = Session(program("dmr_trunk"), folder.name)
-        cls.path = pathlib.Path(folder.name, "site.db")
+        folder = cls.enterClassContext(tempfile.TemporaryDirectory())
+        cls.session = Session(folder)
+        cls.path = pathlib.Path(folder, "site.db")
         # the file is also read between two runs
         cls.numbers = [cls.play_and_read(number) for number in range(len(RUNS))]
 
@@ -269,7 +260,3 @@ class Written(unittest.TestCase):
             other.executescript(statements_of_tables())
             made, wanted = (it.execute(SCHEMA).fetchall() for it in (self.conn, other))
             self.assertEqual(made, wanted)
-
-
-if __name__ == "__main__":
-    unittest.main()

@@ -299,7 +299,3 @@ class Promises(unittest.TestCase):
                 self.assertIn("ensures", it.contract)
                 self.assertNotIn("\n}", it.contract)
                 self.assertTrue(it.says)
-
-
-if __name__ == "__main__":
-    unittest.main()

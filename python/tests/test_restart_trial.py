@@ -41,7 +41,3 @@ class Trial(unittest.TestCase):
     def test_no_program(self) -> None:
         done = subprocess.run([sys.executable, str(TOP / "trials" / "restart"), "/nowhere"], capture_output=True, text=True, check=False)
         self.assertEqual((done.returncode, done.stdout, done.stderr), (2, "", "no /nowhere: run 'make build' first\n"))
-
-
-if __name__ == "__main__":
-    unittest.main()

@@ -10,11 +10,11 @@ import unittest
 from collections.abc import Iterator
 
 from temzaar.console import LISTS
-from temzaar.process import Controller, connect
+from temzaar.process import connect
 from temzaar.script import Input, Session, read_printed, read_script
-from temzaar.sitefile import FREE_PORTS, Site
+from temzaar.sitefile import Site
+from tests import served_kit
 from tests.cases import Case, octets_of, read_cases
-from tests.support import program
 
 # The longest tick of a site file, and how often a case is tried whose run took longer, on a machine that stalls.
 TICK_MS, TRIES = 1000, 8
@@ -130,16 +130,15 @@ class Players:
         return reply
 
 
-def served(built: str, case: Case) -> tuple[str, float]:
+def served(case: Case) -> tuple[str, float]:
     """What comes of a case over TCP, in the form of a replay, and the seconds since the controller listened."""
     with tempfile.NamedTemporaryFile("w", suffix=".toml", encoding="utf-8") as file:
         file.write(octets_of(case.site or "").decode())
         file.flush()
-        site = Site(file.name, first_port=FREE_PORTS, tick_ms=TICK_MS, silence=600)
+        site = served_kit.free_site(file.name, tick_ms=TICK_MS, silence=600)
     carriers, _ = read_printed(case.printed)
     began = time.monotonic()
-    with Controller(built, site) as controller:
-        controller.wait_until_served()
+    with served_kit.served(site):
         players = Players(site, carriers)
         try:
             for it in inputs_of(case):
@@ -159,13 +158,13 @@ class Served(unittest.TestCase):
     """What the served program answers."""
 
     def test_each_case(self) -> None:
-        built, taken = program("dmr_trunk"), list(cases())
+        taken = list(cases())
         self.assertGreaterEqual(len(taken), 60)
         for case in taken:
             with self.subTest(case.full_name):
-                found, seconds = served(built, case)
+                found, seconds = served(case)
                 for _ in range(TRIES):
                     if seconds < TICK_MS / 1000:
                         break
-                    found, seconds = served(built, case)
+                    found, seconds = served(case)
                 self.assertEqual(found, case.printed)

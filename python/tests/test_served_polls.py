@@ -175,7 +175,3 @@ class Played(unittest.TestCase):
                                               "-P", floor.pid, *kind.options)
                 time = poll_times.figures_in(load.communicate(timeout=30)[0]).processor
                 self.assertTrue(0 < time < serving.PERIOD, time)
-
-
-if __name__ == "__main__":
-    unittest.main()

@@ -55,7 +55,3 @@ class Contents(unittest.TestCase):
         self.assertEqual(self.faults(" ".join(links[:2]), 160), [f"{said} The `c`, The `d`, The `e`"])
         self.assertEqual(self.faults(" ".join(links), 160, 44), [])
         self.assertEqual(len(self.faults(" ".join(links), 160, 45)), 1)
-
-
-if __name__ == "__main__":
-    unittest.main()

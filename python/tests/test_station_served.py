@@ -8,14 +8,14 @@ from typing import Any
 
 from temzaar.console import Console
 from temzaar.frames import DONE, VERSIONS, FrameType
-from temzaar.process import Controller, connect
-from temzaar.sitefile import FREE_PORTS, Site
+from temzaar.process import connect
+from temzaar.sitefile import Site
 from tests import test_link
+from tests.served_kit import PATIENCE, free_site, served
 from tests.station_kit import FAST, ask, built, compilers
-from tests.support import TWO_CARRIERS, program
+from tests.support import program
 from tests.test_station import Reference, flipped
 
-PATIENCE = 60
 # a frame of the example, in milliseconds, so that a test is soon over; requests are repeated each eighth frame
 FRAME = 20
 COUNTS = re.compile(r"bursts sent (\d+), of them mended (\d+) and not read (\d+); not received (\d+); transmitted (\d+); frames missed (\d+)$")
@@ -44,9 +44,8 @@ class Radio(unittest.TestCase):
 
     def play(self, version: int, *words: str) -> tuple[list[str], list[str]]:
         """What the example prints in 160 frames, and what the console says of radios and calls."""
-        site = Site(TWO_CARRIERS, first_port=FREE_PORTS, link_version=2)
-        with Controller(program("dmr_trunk"), site) as controller:
-            controller.wait_until_served()
+        site = free_site(link_version=2)
+        with served(site):
             done = example(site, "-v", str(version), "-n", "160", "-r", "1001", "-g", "91", "-w", "5", *words)
             said = asked(site, "radios 1000")
         self.assertEqual((done.returncode, done.stderr), (0, ""))
@@ -92,11 +91,10 @@ class Receiver(unittest.TestCase):
         bursts = ask([*questions, *others])
         lines = ["0 " + bursts[0], "", "0 " + bursts[1], "", "1 " + bursts[2], *(f"0 {it}" for it in bursts[3:]), "", "0 " + bursts[2], ""]
         lines += [line for _ in range(20) for line in ("1 voice", "")]
-        site = Site(TWO_CARRIERS, first_port=FREE_PORTS, hang=4)
-        with Controller(program("dmr_trunk"), site) as controller, tempfile.NamedTemporaryFile("w") as file:
+        site = free_site(hang=4)
+        with served(site), tempfile.NamedTemporaryFile("w") as file:
             file.write("".join(f"{line}\n" for line in lines))
             file.flush()
-            controller.wait_until_served()
             done = example(site, "-n", "40", "-x", "-f", file.name)
             radios = asked(site, "radios 1000")
         sent = re.findall(r"^transmits (\d) (\w+)$", done.stdout, re.M)
@@ -116,9 +114,8 @@ class Connection(unittest.TestCase):
     """How the example connects, and connects again."""
 
     def test_it_falls_back_to_version_1(self) -> None:
-        site = Site(TWO_CARRIERS, first_port=FREE_PORTS)
-        with Controller(program("dmr_trunk"), site) as controller:
-            controller.wait_until_served()
+        site = free_site()
+        with served(site) as controller:
             done = example(site, "-v", "2", "-n", "5")
             notes = "\n".join(controller.notes)
         self.assertEqual(done.stdout.splitlines()[:3], ["refused 1", "connects again; milliseconds 1000", "up in version 1"])
@@ -126,14 +123,13 @@ class Connection(unittest.TestCase):
 
     def test_it_comes_back(self) -> None:
         """A controller ends, and another one begins on its ports."""
-        site = Site(TWO_CARRIERS, first_port=FREE_PORTS)
+        site = free_site()
         row = site.row(1)
         words = [built("example", FAST), "-p", str(row["port"]), "-c", "1", "-l", str(row["lpcn"]), "-t", str(FRAME), "-n", "200"]
         with subprocess.Popen(words, stdout=subprocess.PIPE, text=True) as client:
             try:
                 for _ in range(2):
-                    with Controller(program("dmr_trunk"), site) as controller:
-                        controller.wait_until_served()
+                    with served(site) as controller:
                         self.assertTrue(controller.wait_for("carrier 1: .* connected", 10))
             finally:
                 client.terminate()
@@ -190,9 +186,8 @@ class Streams(unittest.TestCase):
 
     def test_both_versions(self) -> None:
         draws = random.Random(11)
-        site = Site(TWO_CARRIERS, first_port=FREE_PORTS, link_version=2)
-        with Controller(program("dmr_trunk"), site) as controller:
-            controller.wait_until_served()
+        site = free_site(link_version=2)
+        with served(site) as controller:
             for version in VERSIONS:
                 came = self.exchange(site, version, self.questions(draws, version), draws)
                 reference, wanted, place = Reference(version), [], 0
@@ -208,7 +203,3 @@ class Streams(unittest.TestCase):
                 self.assertEqual((sum(":DONE" in it for it in wanted), any("FAULT" in it for it in wanted)), (40, False))
                 self.assertGreaterEqual(sum(":TX" in it for it in wanted), 40)
             self.assertNotIn("fault", "\n".join(controller.notes))
-
-
-if __name__ == "__main__":
-    unittest.main()

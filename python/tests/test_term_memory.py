@@ -6,8 +6,7 @@ import unittest
 
 from temzaar.frames import active, hello
 from temzaar.process import Controller, connect
-from temzaar.sitefile import FREE_PORTS, Site
-from tests.support import TWO_CARRIERS, program
+from tests.served_kit import free_site, served
 
 ENTRIES = 4000
 # pages of the system, of 4,096 octets, that the entries of one journal take
@@ -18,7 +17,7 @@ class TermMemory(unittest.TestCase):
     """A site of two carriers that send nothing but ACTIVE frames, as fast as their ports read. A term ends after less than a second."""
 
     def setUp(self) -> None:
-        self.site = Site(TWO_CARRIERS, first_port=FREE_PORTS, tick_ms=60, term_entries=ENTRIES)
+        self.site = free_site(tick_ms=60, term_entries=ENTRIES)
 
     def flood(self, number: int) -> None:
         """Sends ACTIVE frames of a carrier until the controller has stopped."""
@@ -42,8 +41,7 @@ class TermMemory(unittest.TestCase):
 
     def test_a_term_takes_over_the_lists_of_the_term_before(self) -> None:
         """Once each list has had its length, the end of a term touches fewer new pages than one journal has."""
-        with Controller(program("dmr_trunk"), self.site) as controller:
-            controller.wait_until_served()
+        with served(self.site) as controller:
             senders = [threading.Thread(target=self.flood, args=(number,), daemon=True) for number in (0, 1)]
             for sender in senders:
                 sender.start()

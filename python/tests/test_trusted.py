@@ -116,7 +116,3 @@ class Trusted(unittest.TestCase):
         self.assertEqual(self.faults("the list", "It is of 2 definitions\nof 6 lines."), [])
         self.assertEqual(self.faults("another", "2 definitions of 6 lines"), ["docs/TRUSTED.md is not what ci/trusted-definitions prints"])
         self.assertEqual(self.faults("the list", "3 definitions of 6 lines"), ['docs/ASSURANCE.md has to say "2 definitions of 6 lines"'])
-
-
-if __name__ == "__main__":
-    unittest.main()

@@ -56,7 +56,3 @@ class Removed(unittest.TestCase):
                 (within / "a.py").touch()
             subprocess.run(["sh", "-c", script], check=True)
             self.assertEqual(sorted(it.name for it in top.rglob("*")), ["a.py", "a.py", "hub"])
-
-
-if __name__ == "__main__":
-    unittest.main()

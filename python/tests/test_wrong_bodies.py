@@ -123,7 +123,3 @@ class Commands(Kits):
         self.assertEqual(ran.stderr, "wrong-bodies: kit-0 has no command `rt must-fail`: take a build of the kit that has it\n")
         (self.commands / "rt").unlink()
         self.assertIn("the Rattle kit is missing", self.run_command("ci/wrong-bodies", "dmr_calls").stderr)
-
-
-if __name__ == "__main__":
-    unittest.main()

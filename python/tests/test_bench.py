@@ -16,10 +16,8 @@ class InC(unittest.TestCase):
 
     @classmethod
     def setUpClass(cls) -> None:
-        folder = tempfile.TemporaryDirectory()
-        cls.addClassCleanup(folder.cleanup)
-        cls.folder = folder.name
-        subprocess.run([*CC, "-o", f"{folder.name}/bptc_tables", str(BENCH / "bptc_tables.c")], check=True, timeout=60)
+        cls.folder = cls.enterClassContext(tempfile.TemporaryDirectory())
+        subprocess.run([*CC, "-o", f"{cls.folder}/bptc_tables", str(BENCH / "bptc_tables.c")], check=True, timeout=60)
 
     def test_all_compile_without_a_warning(self) -> None:
         for source in sorted(BENCH.glob("*.c")):

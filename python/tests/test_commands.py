@@ -5,7 +5,6 @@ import pathlib
 import signal
 import socket
 import subprocess
-import tempfile
 import threading
 import unittest
 from collections.abc import Callable, Iterator, Sequence
@@ -14,8 +13,8 @@ from typing import NamedTuple
 from temzaar.cli import archive, callbook, carriers, check, conform, console, hub, report, restart, siteview, timeline
 from temzaar.ports import free_ports
 from temzaar.process import connect
-from temzaar.sitefile import FREE_PORTS, Site
-from tests.support import EXAMPLES, TOP, TWO_CARRIERS, call_tool, take_signals, tool_words
+from tests.served_kit import free_site
+from tests.support import EXAMPLES, TOP, TWO_CARRIERS, FolderCase, call_tool, take_signals, tool_words
 
 MAINS: dict[str, Callable[[list[str]], int]] = {"siteview": siteview.main, "timeline": timeline.main, "callbook": callbook.main, "report": report.main, "archive": archive.main, "carriers": carriers.main,
                                                  "conform": conform.main, "check": check.main, "restart": restart.main, "hub": hub.main, "console": console.main}
@@ -139,14 +138,12 @@ class Consoles:
         self.thread.join(5)
 
 
-class Ended(unittest.TestCase):
+class Ended(FolderCase):
     """The table, and what only a process of its own can show."""
 
     def setUp(self) -> None:
-        holder = tempfile.TemporaryDirectory()
-        self.addCleanup(holder.cleanup)
-        self.folder = pathlib.Path(holder.name)
-        site, free = pathlib.Path(TWO_CARRIERS).read_text(encoding="utf-8"), Site(TWO_CARRIERS, first_port=FREE_PORTS)
+        super().setUp()
+        site, free = pathlib.Path(TWO_CARRIERS).read_text(encoding="utf-8"), free_site()
         self.names = {"site": TWO_CARRIERS, "script": str(SCRIPT), "printed": str(PRINTED), "program": FAKE, "out": str(self.folder / "out"), "none": str(self.folder / "none")}
         (self.folder / "folder").mkdir()
         for name, octets in (("text", b"This is\nsomething else.\n"), ("octets", b"\xff\xfe\0"), ("wrong", site.replace("console_port = 7100", 'console_port = "7100"').encode()),

@@ -15,9 +15,10 @@ import unittest
 from collections.abc import Sequence
 
 from temzaar.conformance import NO_SOURCE, OWN, ROWS, USUAL, TestSource
-from temzaar.sitefile import FREE_PORTS, Site
+from temzaar.sitefile import Site
+from tests.served_kit import free_site
 from tests.station_kit import FAST, ask, built, compilers, first_difference
-from tests.support import TOP, TWO_CARRIERS, program, read_document, table_rows, take_signals, tool_words
+from tests.support import TOP, program, read_document, table_rows, take_signals, tool_words
 from tests.wrong_client import POINTS, word_of
 
 LINK = read_document("LINK.md")
@@ -33,7 +34,7 @@ Parts = list["concurrent.futures.Future[Findings]"]
 
 def write_site(folder: str) -> Site:
     """Writes a site on free ports to `site.toml` in a folder."""
-    site = Site(TWO_CARRIERS, first_port=FREE_PORTS)
+    site = free_site()
     with open(os.path.join(folder, "site.toml"), "w", encoding="utf-8") as it:
         it.write(site.text())
     return site
@@ -155,11 +156,8 @@ class OtherClients(unittest.TestCase):
 
     def setUp(self) -> None:
         program("dmr_trunk")
-        holder = tempfile.TemporaryDirectory()
-        self.addCleanup(holder.cleanup)
-        self.folder = holder.name
-        self.site = write_site(self.folder)
-        self.port = self.site.row(0)["port"]
+        self.folder = self.enterContext(tempfile.TemporaryDirectory())
+        self.port = write_site(self.folder).row(0)["port"]
 
     def test_the_client_of_the_document(self) -> None:
         """It leaves after four POLLs. What it claims is right, in both versions."""

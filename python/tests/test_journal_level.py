@@ -1,27 +1,20 @@
 """The notes of a controller whose standard error is a stream of systemd's journal: a warning begins with its level. Skipped if the program was not built."""
 import os
-import pathlib
 import socket
 import subprocess
-import tempfile
-import unittest
 
-from temzaar.sitefile import FREE_PORTS, Site
-from tests.support import TWO_CARRIERS, program
+from tests.served_kit import free_site
+from tests.support import FolderCase, program
 
 
-class JournalLevel(unittest.TestCase):
+class JournalLevel(FolderCase):
     """A controller whose console's port is taken: it notes its start, and then a warning."""
 
     def setUp(self) -> None:
-        self.built = program("dmr_trunk")
-        folder = tempfile.TemporaryDirectory()
-        self.addCleanup(folder.cleanup)
-        site = Site(TWO_CARRIERS, first_port=FREE_PORTS)
-        self.path = pathlib.Path(folder.name, "site.toml")
-        self.path.write_text(site.text(), encoding="utf-8")
-        taken = socket.create_server((site.address, site.console_port))
-        self.addCleanup(taken.close)
+        super().setUp()
+        self.built, site = program("dmr_trunk"), free_site()
+        self.path = self.write("site.toml", site.text())
+        self.enterContext(socket.create_server((site.address, site.console_port)))
 
     def notes(self, stream: str | None) -> list[str]:
         """The notes, up to the name of what they are about. `stream` is the variable's value, in which `STREAM` is replaced by the stream of standard error."""

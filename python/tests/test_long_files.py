@@ -2,21 +2,18 @@
 import os
 import pathlib
 import subprocess
-import tempfile
-import unittest
 
-from tests.support import TWO_CARRIERS, program
+from tests.support import TWO_CARRIERS, FolderCase, program
 
 MIB = 1 << 20
 
 
-class LongFiles(unittest.TestCase):
+class LongFiles(FolderCase):
     """A site file has 1 MiB at most, a script 1,024 MiB."""
 
     def setUp(self) -> None:
-        folder = tempfile.TemporaryDirectory()
-        self.addCleanup(folder.cleanup)
-        self.path = pathlib.Path(folder.name, "long")
+        super().setUp()
+        self.path = self.folder / "long"
 
     def run_program(self, name: str, *words: str) -> tuple[int, str]:
         """The status of a program, and what it writes to standard error."""

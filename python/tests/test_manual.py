@@ -1,7 +1,5 @@
 """The manual pages, as `ci/write-manual` writes them: their form, and that they have the options, statuses, keys, messages and commands of the programs and documents."""
 import functools
-import importlib.machinery
-import importlib.util
 import os
 import pathlib
 import re
@@ -13,7 +11,7 @@ import tempfile
 import unittest
 from typing import NamedTuple
 
-from tests.support import TOP, manual_pages, program, read_document, run_tool, table_rows
+from tests.support import TOP, load_command, manual_pages, program, read_document, run_tool, table_rows
 from tests.test_messages import as_pattern, messages
 
 WRITE = TOP / "ci" / "write-manual"
@@ -167,11 +165,7 @@ class Form(unittest.TestCase):
 
     def test_a_source_that_adds_to_nothing(self) -> None:
         """A row for an option, or a status, that the program does not have is refused."""
-        loader = importlib.machinery.SourceFileLoader("write_manual", str(WRITE))
-        spec = importlib.util.spec_from_loader("write_manual", loader)
-        assert spec
-        writing = importlib.util.module_from_spec(spec)
-        loader.exec_module(writing)
+        writing = load_command("ci/write-manual")
         for section, row in (("OPTIONS", "| --nothing | Text. |"), ("EXIT STATUS", "| 7 | Text. |"), ("DESCRIPTION", "@nothing"), ("FILES", "@paragraph HUB.md No paragraph begins so")):
             with self.subTest(row), tempfile.TemporaryDirectory() as folder:
                 path = pathlib.Path(folder, "dmr_check.1.md")

@@ -43,10 +43,8 @@ class Shown(unittest.TestCase):
 
     def setUp(self) -> None:
         self.clock, self.out, self.screen = Clock(), io.StringIO(), Terminal()
-        for change in (unittest.mock.patch.dict("os.environ", {"COLUMNS": "60", "TERM": "vt100"}),
-                       unittest.mock.patch.object(time, "strftime", lambda _: "12:00:00")):
-            change.start()
-            self.addCleanup(change.stop)
+        self.enterContext(unittest.mock.patch.dict("os.environ", {"COLUMNS": "60", "TERM": "vt100"}))
+        self.enterContext(unittest.mock.patch.object(time, "strftime", lambda _: "12:00:00"))
 
     def lines(self) -> list[str]:
         """The lines of the output that is not a terminal."""

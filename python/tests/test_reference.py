@@ -1,7 +1,5 @@
 """The reference in C (reference/): it compiles without a warning, answers each worked case as the controller does, and the soak that plays it finds what is wrong."""
 import contextlib
-import importlib.machinery
-import importlib.util
 import io
 import pathlib
 import re
@@ -9,34 +7,21 @@ import shutil
 import subprocess
 import sys
 import tempfile
-import types
 import unittest
 import unittest.mock
 
 from tests.cases import Case, octets_of, read_cases
-from tests.support import TOP, program
+from tests.support import TOP, load_command, program
 
 REFERENCE = TOP / "reference"
 sys.path.insert(0, str(REFERENCE))
 from plans import plan_of  # noqa: E402  (the path comes first)
 
+soak, wrong_rules = load_command("reference/soak"), load_command("reference/wrong-rules")
 CC = ["cc", "-std=c99", "-pedantic", "-Wall", "-Wextra", "-Werror"]
 FAST, SANITIZERS = ["-O1"], ["-O0", "-g", "-fsanitize=address,undefined", "-fno-sanitize-recover=all"]
 # The tables of rules in docs/SITE_MACHINE.md, in the order of rows.h: the heading, or the line, that each comes after.
 TABLES = ("### A request (C_RAND)", "**Close(r)**", "### A talkgroup request", "### An individual request", "### The called radio's answer")
-
-
-
-def command(name: str) -> types.ModuleType:
-    """A command of the reference, as a module."""
-    loader = importlib.machinery.SourceFileLoader(name.replace("-", "_"), str(REFERENCE / name))
-    module = importlib.util.module_from_spec(importlib.util.spec_from_loader(loader.name, loader))
-    sys.modules[loader.name] = module
-    loader.exec_module(module)
-    return module
-
-
-soak, wrong_rules = command("soak"), command("wrong-rules")
 
 
 def rows_of(text: str, heading: str) -> list[str]:
@@ -56,9 +41,7 @@ class InC(unittest.TestCase):
 
     @classmethod
     def setUpClass(cls) -> None:
-        folder = tempfile.TemporaryDirectory()
-        cls.addClassCleanup(folder.cleanup)
-        cls.folder = pathlib.Path(folder.name)
+        cls.folder = pathlib.Path(cls.enterClassContext(tempfile.TemporaryDirectory()))
         for name, flags in (("replay", FAST), ("soak", SANITIZERS)):
             subprocess.run([*CC, *flags, "-o", str(cls.folder / name), str(REFERENCE / f"{name}.c")], check=True, timeout=100)
 
@@ -131,9 +114,7 @@ class OverTheProgram(unittest.TestCase):
 
     def setUp(self) -> None:
         self.program = program("dmr_trunk")
-        folder = tempfile.TemporaryDirectory()
-        self.addCleanup(folder.cleanup)
-        self.built = soak.build(pathlib.Path(folder.name))
+        self.built = soak.build(pathlib.Path(self.enterContext(tempfile.TemporaryDirectory())))
 
     def soak(self, change: str) -> tuple[int, str, str]:
         """A short soak of the program whose output a command of sed changes: the status, and what it prints."""

@@ -1,19 +1,18 @@
 """How a release is made: its steps, the runs that make it, its record, and its list of components."""
 import hashlib
-import importlib.machinery
-import importlib.util
+import importlib
 import io
 import json
 import pathlib
 import re
 import subprocess
-import sys
 import tempfile
 import unittest
 import unittest.mock
 
-TOP = pathlib.Path(__file__).resolve().parent.parent.parent
-sys.path.insert(0, str(TOP / "ci"))
+from tests.support import TOP, FolderCase, load_command
+
+command = load_command("ci/release")
 steps = importlib.import_module("releasing.steps")
 reached = importlib.import_module("releasing.reached")
 shown = importlib.import_module("progress")
@@ -22,11 +21,6 @@ components = importlib.import_module("releasing.components")
 promises = importlib.import_module("releasing.promises")
 
 SOURCE = record.Source("1.2.3", "0123456789abcdef", "2026-01-02", "d" * 64, 7)
-
-
-loader = importlib.machinery.SourceFileLoader("release", str(TOP / "ci/release"))
-command = importlib.util.module_from_spec(importlib.util.spec_from_loader("release", loader))
-loader.exec_module(command)
 RUN = reached.Run("2026-01-02", ["2 processors", "8 GiB of memory"])
 
 
@@ -78,13 +72,11 @@ class Steps(unittest.TestCase):
                     self.assertEqual((got.status, got.last), (status, last))
 
 
-class Runs(unittest.TestCase):
+class Runs(FolderCase):
     """A release that several runs make."""
 
     def setUp(self) -> None:
-        room = tempfile.TemporaryDirectory()
-        self.addCleanup(room.cleanup)
-        self.folder = pathlib.Path(room.name)
+        super().setUp()
         (self.folder / "logs").mkdir()
         self.steps = [steps.Step(name, ["sh", "-c", f"echo {name}; test {name} != fails"], 1) for name in ("first", "fails", "last")]
 
@@ -167,16 +159,13 @@ class Texts(unittest.TestCase):
             self.assertTrue((TOP / name).is_file())
 
 
-class Begins(unittest.TestCase):
+class Begins(FolderCase):
     """The folder of a release, at the beginning of a run. The commit is a made one: a checkout may be without git."""
 
     def setUp(self) -> None:
-        room = tempfile.TemporaryDirectory()
-        self.addCleanup(room.cleanup)
-        self.folder = pathlib.Path(room.name) / "release"
-        commit = unittest.mock.patch.object(command, "git", lambda *_: "0ddba11\n")
-        self.addCleanup(commit.stop)
-        commit.start()
+        super().setUp()
+        self.folder = self.folder / "release"
+        self.enterContext(unittest.mock.patch.object(command, "git", lambda *_: "0ddba11\n"))
 
     def test_new_folder(self) -> None:
         """The first run makes the folder, and a later one goes on with it."""

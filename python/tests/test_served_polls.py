@@ -148,11 +148,10 @@ class Played(unittest.TestCase):
 
     @classmethod
     def setUpClass(cls) -> None:
-        folder = tempfile.TemporaryDirectory()
-        cls.addClassCleanup(folder.cleanup)
+        folder = cls.enterClassContext(tempfile.TemporaryDirectory())
         cls.programs = {}
         for name in ("site_server", "serve_floor", "load_generator"):
-            cls.programs[name], source = f"{folder.name}/{name}", str(TOP / "bench" / f"{name}.c")
+            cls.programs[name], source = f"{folder}/{name}", str(TOP / "bench" / f"{name}.c")
             subprocess.run(["cc", "-std=c11", "-O1", "-o", cls.programs[name], source, "-lpthread"],
                            check=True, timeout=120)
 

@@ -2,12 +2,11 @@
 import os
 import re
 import subprocess
-import tempfile
 import tomllib
 import unittest
 from collections.abc import Iterator
 
-from tests.support import TOP, TWO_CARRIERS, program, read_document, table_rows
+from tests.support import TOP, TWO_CARRIERS, FolderCase, program, read_document, table_rows
 
 SITE_FILE = read_document("SITE_FILE.md")
 ARRAYS = ("address", "radios", "groups", "carrier")
@@ -57,28 +56,15 @@ class Example(unittest.TestCase):
         self.assertLessEqual(set(tomllib.loads(example())), keys)
 
 
-class Texts(unittest.TestCase):
+class Texts(FolderCase):
     """The controller's messages for site files with one fault each."""
-
-    def setUp(self) -> None:
-        self.program = program("dmr_trunk")
-        folder = tempfile.TemporaryDirectory()
-        self.addCleanup(folder.cleanup)
-        self.path, self.script = os.path.join(folder.name, "site.toml"), os.path.join(folder.name, "script.txt")
-        with open(self.script, "w", encoding="utf-8"):
-            pass
-
-    def judged(self, text: str) -> tuple[int, str]:
-        """The status and the message for a site file."""
-        with open(self.path, "w", encoding="utf-8") as it:
-            it.write(text)
-        done = subprocess.run([self.program, "--site", self.path, "--script", self.script], capture_output=True, text=True, check=False)
-        return done.returncode, done.stderr
 
     def expect(self, text: str, fault: str | None) -> None:
         """A site file is taken, or refused with this fault."""
+        words = [program("dmr_trunk"), "--site", self.write("site.toml", text), "--script", os.devnull]
+        done = subprocess.run(words, capture_output=True, text=True, check=False)
         wanted = (1, f"dmr_trunk: site file: {fault}\n") if fault else (0, "")
-        self.assertEqual(self.judged(text), wanted, text)
+        self.assertEqual((done.returncode, done.stderr), wanted, text)
 
     def number_cases(self) -> Iterator[tuple[str, int, int]]:
         """Each key with one number: its range in the table, without the ends that are another key's value."""

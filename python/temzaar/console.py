@@ -131,10 +131,6 @@ class Status:
         self.counts = {name: int(count) for name, count in zip(words[1:11:2], words[2:11:2], strict=True)}
         self.fill = " ".join(words[12:])
 
-    def is_empty(self) -> bool:
-        """Whether the site is as it is at its start: no carrier, radio or call, and C_ALOHA as the fill."""
-        return not any(self.counts.values()) and self.fill == "aloha"
-
 
 def read_slots(reply: list[str]) -> dict[SlotKey, str]:
     """The reply to `slots`: the state of each slot."""

@@ -36,11 +36,6 @@ class Process:
         with open(f"/proc/{self.pid}/status", encoding="utf-8") as it:
             return int(re.findall(r"VmRSS:\s+(\d+)", it.read())[0])
 
-    def page_faults(self) -> int:
-        """How often it has touched a page of memory that it did not have yet."""
-        with open(f"/proc/{self.pid}/stat", encoding="utf-8") as it:
-            return int(it.read().rpartition(")")[2].split()[7])
-
     def addresses(self) -> int:
         """The octets of its address space."""
         with open(f"/proc/{self.pid}/status", encoding="utf-8") as it:
@@ -49,14 +44,6 @@ class Process:
     def descriptors(self) -> int:
         """How many file descriptors it has open."""
         return len(os.listdir(f"/proc/{self.pid}/fd"))
-
-    def wakeups(self) -> int:
-        """How often the threads that it has now have begun to wait."""
-        count = 0
-        for thread in os.listdir(f"/proc/{self.pid}/task"):
-            with open(f"/proc/{self.pid}/task/{thread}/status", encoding="utf-8") as it:
-                count += int(re.findall(r"\nvoluntary_ctxt_switches:\s+(\d+)", it.read())[0])
-        return count
 
 
 # The number of the call by which a process says which signal it gets when its parent ends (prctl(2)).

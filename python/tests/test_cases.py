@@ -58,12 +58,6 @@ class Sessions(unittest.TestCase):
                 self.assertEqual(bool(told), any(it.what == "said" and "\n" in it.text for it in events))
                 self.assertTrue(all(pdus.read(it.octets).name != pdus.OTHER for it in events if it.what == "sent"))
 
-    def test_every_registration_is_answered_once(self) -> None:
-        case = next(it for it in CASES if it.full_name == "registration: clean registration")
-        carriers, _ = read_printed(case.printed)
-        sent = [pdus.read(it.octets) for it in Replay(read_script(case.script or ""), carriers).events if it.what == "sent"]
-        self.assertEqual([(it.name, it["reason"]) for it in sent if it.name == "C_ACKD"], [("C_ACKD", pdus.REG_ACCEPTED)])
-
 
 class OverLinks(unittest.TestCase):
     """The links that carriers are served by, on a wire in memory, come to the same. `dmr_decode` has them, and prints the journal of their events."""

@@ -4,11 +4,10 @@ import os
 import pty
 import signal
 import subprocess
-import time
 import unittest
 
 from temzaar.cli.check import MOST_OCTETS
-from tests.support import SITES, TOP, TWO_CARRIERS, FolderCase, program, run_tool, take_signals, tool_words
+from tests.support import SITES, TOP, TWO_CARRIERS, FolderCase, program, run_tool, take_signals, tool_words, wait_until
 from tests.test_check_risks import SITE
 
 FAULTY = SITE.replace("lpcn = 2", "lpcn = 4095").replace("hang = 100", "hnag = 100")
@@ -255,9 +254,7 @@ class Asked(Command):
             temporary = self.folder / f"temporary{number}"
             temporary.mkdir()
             with subprocess.Popen(tool_words("check", TWO_CARRIERS), env={**self.environment, "TMPDIR": str(temporary)}, stdout=subprocess.PIPE, stderr=subprocess.PIPE, preexec_fn=take_signals) as process:
-                until = time.monotonic() + 60
-                while not (self.folder / "began").exists() and time.monotonic() < until:
-                    time.sleep(0.02)
+                wait_until((self.folder / "began").exists)
                 process.send_signal(number)
                 output, errors = process.communicate(timeout=60)
             (self.folder / "began").unlink()

@@ -179,37 +179,32 @@ class Ended(FolderCase):
             self.assertEqual((done.returncode, done.stdout), (2, ""), tool)
             self.assertIn("required", done.stderr)
 
-    def run_in_shell(self, tool: str, *words: str, shell: str) -> subprocess.CompletedProcess[str]:
-        """A command as a process; `shell` is what a shell does with its output."""
-        line = ["bash", "-c", f'"$@" {shell}', "bash", *tool_words(tool, *words)]
-        return subprocess.run(line, capture_output=True, text=True, check=False, timeout=60)
-
-    def test_outputs_that_end_or_are_full(self) -> None:
-        draw = ("timeline", "--site", TWO_CARRIERS, "--script", str(SCRIPT), "--printed", str(PRINTED), "--decoder", "/bin/true")
+    def printing(self) -> list[tuple[str, ...]]:
+        """Words of commands that print something."""
         consoles = Consoles(REPLIES)
         self.addCleanup(consoles.close)
-        view, ask = ("siteview", "--console", consoles.place, "--once"), ("console", "--tcp", consoles.place, "status")
-        for words, fault in ((draw, 1), (view, 1), (ask, 1), (("check", "--no-controller", TWO_CARRIERS), 2)):
+        return [("timeline", *DRAW.format(**self.names).split()), ("siteview", "--console", consoles.place, "--once"), ("console", "--tcp", consoles.place, "status"),
+                ("check", "--no-controller", TWO_CARRIERS)]
+
+    def test_outputs_that_end_or_are_full(self) -> None:
+        for words in self.printing():
+            fault = 2 if words[0] == "check" else 1
             for shell, status, said in (("> /dev/full", fault, f"{words[0]}: standard output: No space left on device\n"),
                                         (">&-", fault, f"{words[0]}: standard output is closed\n"), ("2>&- >/dev/null", 0, "")):
                 with self.subTest(words[0], shell=shell):
-                    done = self.run_in_shell(*words, shell=shell)
+                    line = ["bash", "-c", f'"$@" {shell}', "bash", *tool_words(*words)]
+                    done = subprocess.run(line, capture_output=True, text=True, check=False, timeout=60)
                     self.assertEqual((done.returncode, done.stderr), (status, said))
 
     def test_a_closed_pipe(self) -> None:
-        """The reader has gone before anything was written. argparse passes over that when it prints a help text."""
-        consoles = Consoles(REPLIES)
-        self.addCleanup(consoles.close)
-        for words, status in ((("timeline", "--site", TWO_CARRIERS, "--script", str(SCRIPT), "--printed", str(PRINTED), "--decoder", "/bin/true"), -signal.SIGPIPE),
-                              (("siteview", "--console", consoles.place, "--once"), -signal.SIGPIPE),
-                              (("console", "--tcp", consoles.place, "status"), -signal.SIGPIPE), (("check", "--no-controller", TWO_CARRIERS), -signal.SIGPIPE)):
+        """The reader has gone before anything was written."""
+        for words in self.printing():
             with self.subTest(words[0]):
                 reader, writer = os.pipe()
                 os.close(reader)
-                with subprocess.Popen(tool_words(*words), stdout=writer, stderr=subprocess.PIPE, text=True) as process:
-                    os.close(writer)
-                    _, said = process.communicate(timeout=60)
-                self.assertEqual((process.returncode, said), (status, ""))
+                done = subprocess.run(tool_words(*words), stdout=writer, stderr=subprocess.PIPE, text=True, check=False, timeout=60)
+                os.close(writer)
+                self.assertEqual((done.returncode, done.stderr), (-signal.SIGPIPE, ""))
 
     @contextlib.contextmanager
     def waiting(self, words: Sequence[str], more: Sequence[str]) -> Iterator[subprocess.Popen[str]]:

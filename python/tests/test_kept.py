@@ -3,14 +3,13 @@ import re
 import resource
 import signal
 import subprocess
-import time
 
 from temzaar.console import Console, Status
 from temzaar.faults import ToolFault
 from temzaar.records import RecordedTerm, opened_records
 from tests.made_records import opened
 from tests.served_kit import ACKNOWLEDGED, PATIENCE, ServedCase, free_site, register_radio
-from tests.support import TOP
+from tests.support import TOP, wait_until
 
 # the radio that register_radio registers
 RADIO = 1001
@@ -40,10 +39,7 @@ class Kept(ServedCase):
 
     def wait_for_radios(self, wanted: list[int]) -> None:
         """Waits until the file has these radios."""
-        until = time.monotonic() + 30
-        while self.recorded()[0] != wanted and time.monotonic() < until:
-            time.sleep(0.05)
-        self.assertEqual(self.recorded()[0], wanted)
+        wait_until(lambda: self.recorded()[0] == wanted)
 
     def test_a_radio_is_registered_again_after_a_kill(self) -> None:
         """A radio that had registered is so again. One that the site file no longer lists is not."""

@@ -1,11 +1,10 @@
 """The file of names: what is read of it, what is refused with its line, and how a name is shown next to its number."""
-import csv
 import pathlib
 import tempfile
 import unittest
 
 from temzaar.names import MOST_BAD, MOST_CHARACTERS, MOST_LINES, NO_NAMES, Kind, Names, NamesFault, NamesFile, bearers_in, named, parse_names, read_names
-from temzaar.printable import columns_of, cut_text, padded, safe_cell
+from temzaar.printable import columns_of, cut_text, padded
 
 RIGHT = "kind,number,name\nradio,1001,Bus 12\ntalkgroup,91,Drivers\ncarrier,0,Mast North\n"
 NAMES = parse_names(RIGHT.encode(), "names.csv").names
@@ -145,8 +144,3 @@ class Shown(unittest.TestCase):
         self.assertEqual([columns_of(it) for it in ("abc", "Süd", "東京", "e\u0301")], [3, 3, 4, 1])
         self.assertEqual([cut_text("東京駅前", it) for it in (8, 7, 6, 2)], ["東京駅前", "東京..", "東京..", ".."])
         self.assertEqual((cut_text("Bus 12 spare", 8), padded("東京", 6), padded("東京", 2)), ("Bus 12..", "東京  ", "東京"))
-
-    def test_a_spreadsheet_takes_no_name_for_a_formula(self) -> None:
-        for name in ("=1+1", "+1", "-1", "@a"):
-            self.assertEqual(safe_cell(parse(f"radio,1,{name}").names.name_of(Kind.RADIO, 1)), f"'{name}")
-        self.assertEqual(next(csv.reader(["'=1+1"])), ["'=1+1"])

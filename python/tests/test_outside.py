@@ -25,6 +25,7 @@ from temzaar.records import BadRow, RecordsFault, opened_records
 from tests.fake_console import FakeConsole
 from tests.hub_support import HubCase, wait_until
 from tests.made_records import change, locked, make_records
+from tests import support
 from tests.support import TWO_CARRIERS, FolderCase, call_tool, tool_words
 
 # What sets the title of a terminal, and clears it.
@@ -147,9 +148,7 @@ class Files(FolderCase):
         with locked(self.path):
             for tool in ("callbook", "timeline"):
                 with subprocess.Popen(tool_words(tool, "--records", str(self.path)), env={**os.environ, "TMPDIR": str(temporary)}, stderr=subprocess.DEVNULL) as running:
-                    until = time.monotonic() + 20
-                    while not list(temporary.glob("dmr_records_*")) and time.monotonic() < until:
-                        time.sleep(0.01)
+                    support.wait_until(lambda: list(temporary.glob("dmr_records_*")))
                     # it has made the folder, and waits in it
                     time.sleep(0.3)
                     running.terminate()

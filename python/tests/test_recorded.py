@@ -1,7 +1,6 @@
 """The exact recording of a served site, and its replay. All of it is skipped if the program was not built."""
-import time
-
 from tests.served_kit import ACKNOWLEDGED, PATIENCE, ServedCase, free_site, register_radio
+from tests.support import wait_until
 
 # A term has so few entries that one ends each half of a second, if nothing but ticks comes.
 ENTRIES, TICK_MS = 50, 10
@@ -71,9 +70,7 @@ class Recorded(ServedCase):
     def test_a_file_that_is_removed(self) -> None:
         """It is noted with the next term, once. The site is served all the same."""
         with self.serve(self.site, "--terms", "6") as controller:
-            until = time.monotonic() + PATIENCE
-            while not self.path.exists() and time.monotonic() < until:
-                time.sleep(0.02)
+            wait_until(self.path.exists)
             self.path.unlink()
             self.assertTrue(controller.wait_for("recording: ended: the file was removed", PATIENCE), controller.notes)
             self.assertEqual(controller.process.wait(PATIENCE), 0, controller.notes)

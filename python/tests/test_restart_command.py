@@ -28,7 +28,7 @@ from tests.fake_console import FakeConsole
 from tests.hub_support import HubCase
 from tests.made_records import add_term, locked, make_records
 from tests.served_kit import PATIENCE, free_site
-from tests.support import TOP, TWO_CARRIERS, FolderCase, call_tool, program, tool_words
+from tests.support import TOP, TWO_CARRIERS, FolderCase, call_tool, program, tool_words, wait_until
 from tests.test_siteview import Written
 
 FAKE = str(TOP / "python" / "tests" / "fake_controller.py")
@@ -37,14 +37,6 @@ ASK = "import socket, sys; sys.exit(int(socket.create_connection(('127.0.0.1', {
 # What the console answers of a site without calls; and of slots, if carrier 1 is down.
 QUIET = {"slots": ["slot 0 0 control", "slot 0 1 free", "slot 1 0 free", "slot 1 1 free", "end"], "lines 1": ["end"]}
 ONE_DOWN = ["slot 0 0 control", "slot 0 1 free", "slot 1 0 down", "slot 1 1 down", "end"]
-
-
-def wait_until(condition: Callable[[], object]) -> None:
-    """Waits until a condition holds. AssertionError: it does not in time."""
-    until = time.monotonic() + PATIENCE
-    while not condition():
-        assert time.monotonic() < until, "it did not come in time"
-        time.sleep(0.02)
 
 
 class Restarter:

@@ -1,16 +1,22 @@
 """The memory of a term, which the next term takes over. All of it is skipped if the program was not built."""
 import contextlib
+import pathlib
 import threading
-import time
 import unittest
 
 from temzaar.frames import active, hello
 from temzaar.process import Controller, connect
 from tests.served_kit import free_site, served
+from tests.support import wait_until
 
 ENTRIES = 4000
 # pages of the system, of 4,096 octets, that the entries of one journal take
 PAGES = ENTRIES * 568 // 4096
+
+
+def page_faults(pid: int) -> int:
+    """How often a process has touched a page of memory that it did not have yet."""
+    return int(pathlib.Path(f"/proc/{pid}/stat").read_text(encoding="utf-8").rpartition(")")[2].split()[7])
 
 
 class TermMemory(unittest.TestCase):
@@ -27,13 +33,6 @@ class TermMemory(unittest.TestCase):
             while True:
                 stream.sendall(active(1) * 100)
 
-    def wait_for_terms(self, controller: Controller, count: int) -> None:
-        """Waits until `count` terms have ended."""
-        until = time.monotonic() + 60
-        while self.terms(controller) < count and time.monotonic() < until:
-            time.sleep(0.02)
-        self.assertGreaterEqual(self.terms(controller), count, controller.notes)
-
     @staticmethod
     def terms(controller: Controller) -> int:
         """How many terms have ended, by the notes."""
@@ -45,10 +44,10 @@ class TermMemory(unittest.TestCase):
             senders = [threading.Thread(target=self.flood, args=(number,), daemon=True) for number in (0, 1)]
             for sender in senders:
                 sender.start()
-            self.wait_for_terms(controller, 4)
-            before, first = controller.page_faults(), self.terms(controller)
-            self.wait_for_terms(controller, first + 5)
-            faults, ends = controller.page_faults() - before, self.terms(controller) - first
+            wait_until(lambda: self.terms(controller) >= 4)
+            before, first = page_faults(controller.pid), self.terms(controller)
+            wait_until(lambda: self.terms(controller) >= first + 5)
+            faults, ends = page_faults(controller.pid) - before, self.terms(controller) - first
         for sender in senders:
             sender.join(10)
         self.assertLess(faults / ends, PAGES / 2, f"{faults} page faults at {ends} ends of terms of {PAGES} pages")

@@ -6,6 +6,7 @@ import heapq
 import random
 import selectors
 import time
+from argparse import Namespace
 from collections import Counter, deque
 from collections.abc import Callable
 from dataclasses import dataclass
@@ -28,17 +29,6 @@ RETRANSMITTED = 0.1
 CONNECTING = 3.0
 
 SlotKey = tuple[int | None, int]
-
-
-class Options(Protocol):
-    """The settings of a play: the command line of `carriers`, or a test's stand-in."""
-    radios: int
-    seed: int
-    link_version: int | None
-    seconds: float
-    polls: int
-    fast: bool
-    troubles: float
 
 
 class Radio:
@@ -262,7 +252,8 @@ class Carrier:
 class Play:
     """A whole play: carriers, radios, counts, and what was found wrong."""
 
-    def __init__(self, site: Site, options: Options) -> None:
+    def __init__(self, site: Site, options: Namespace) -> None:
+        """`options` are those of `carriers`."""
         self.site, self.options = site, options
         self.counts: Counter[str] = Counter()
         self.faults: Counter[str] = Counter()

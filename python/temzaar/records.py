@@ -15,7 +15,7 @@ from collections.abc import Iterator, Sequence
 from dataclasses import dataclass, field
 from typing import Any
 
-from temzaar.faults import MOST_OCTETS, ToolFault
+from temzaar.faults import MOST_OCTETS, ToolFault, reason_of
 from temzaar.moments import Span
 
 # The path of the file, if the systemd unit of the controller runs.
@@ -251,13 +251,13 @@ def copy_records(path: str, copy: str, seconds: float) -> None:
     try:
         descriptor = open_file(path)
     except (OSError, ValueError) as fault:
-        raise RecordsFault(f"{path}: {fault.strerror if isinstance(fault, OSError) else fault}") from fault
+        raise RecordsFault(f"{path}: {reason_of(fault)}") from fault
     try:
         wait_for_shared_lock(descriptor, path, seconds)
         copy_locked(descriptor, path, copy)
     except OSError as fault:
         name = fault.filename if isinstance(fault.filename, str) else path
-        raise RecordsFault(f"{name}: {fault.strerror or fault}") from fault
+        raise RecordsFault(f"{name}: {reason_of(fault)}") from fault
     finally:
         os.close(descriptor)
 

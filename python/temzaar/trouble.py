@@ -11,10 +11,11 @@ import signal
 import socket
 import struct
 import time
+from argparse import Namespace
 from collections import Counter, deque
 
 from temzaar.frames import POLL, TO_CARRIER, Cutter, Frame, FrameType, Link, hello, rx
-from temzaar.player import PERIOD, Backoff, Options, Play
+from temzaar.player import PERIOD, Backoff, Play
 from temzaar.process import Controller
 from temzaar.sitefile import Row, Site
 from temzaar.sitekeys import WAIT_MS
@@ -359,7 +360,7 @@ class TroubledOperator:
 class TroubledPlay(Play):
     """A play in which things go wrong, one at a time and together, and that ends quietly."""
 
-    def __init__(self, site: Site, options: Options, controller: Controller) -> None:
+    def __init__(self, site: Site, options: Namespace, controller: Controller) -> None:
         super().__init__(site, options)
         self.controller, self.selector, self.random = controller, selectors.DefaultSelector(), self.radios.random
         self.stopped_until: float | None = None

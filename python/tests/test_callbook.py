@@ -263,8 +263,8 @@ class Moments(unittest.TestCase):
             self.assertEqual(iso_text(NOON - 123 * 86_400_000), "2026-07-27T14:00:00.000+02:00")
 
     def test_a_time_before_now_belongs_to_its_option(self) -> None:
-        self.assertEqual(join_times(["--from", "-2h", "--to", "-5m", "-x"], ("--from", "--to")), ["--from=-2h", "--to=-5m", "-x"])
-        self.assertEqual(join_times(["--last", "-2h"], ("--from",)), ["--last", "-2h"])
+        self.assertEqual(join_times(["--from", "-2h", "--to", "-5m", "-x"]), ["--from=-2h", "--to=-5m", "-x"])
+        self.assertEqual(join_times(["--last", "-2h"]), ["--last", "-2h"])
         self.assertRaises(MomentFault, read_moment, "-2w", datetime.fromisoformat("2026-11-27T12:00:00+00:00"))
 
 

@@ -64,7 +64,7 @@ class Terms(Served):
         self.controller.reader.join(PATIENCE)
         self.assertEqual(self.terms(), ["10 entries, 0 polls, 0 bursts, 0 noise, 0 registrations, 0 refusals"] * 3)
         delays = re.findall(r"the clock was delayed by (\d+) ms", "\n".join(self.controller.notes))
-        due = 30 * self.site.tick_seconds + sum(map(int, delays)) / 1000
+        due = 30 * self.site.plan["tick_ms"] / 1000 + sum(map(int, delays)) / 1000
         self.assertGreater(ended - began, due / 1.5)
         self.assertLess(ended - served, due * 1.5)
 

@@ -4,7 +4,7 @@ A grant that is sent after its call's P_CLEAR is of a call that has ended. A gra
 neither is a fault.
 """
 import unittest
-from dataclasses import dataclass
+from argparse import Namespace
 from typing import NamedTuple
 
 from temzaar import code, pdus
@@ -63,16 +63,7 @@ class Signs(unittest.TestCase):
                 self.assertEqual(slots.overlaps(), case.overlaps)
 
 
-@dataclass
-class Options:
-    """The settings of a play."""
-    radios: int = 4
-    seed: int = 1
-    link_version: int | None = None
-    seconds: float = 1.0
-    polls: int = 0
-    fast: bool = False
-    troubles: float = 0.0
+OPTIONS = Namespace(radios=4, seed=1, link_version=None, seconds=1.0, polls=0, fast=False)
 
 
 class SilentCarrier:
@@ -90,7 +81,7 @@ class Played(unittest.TestCase):
     def play(self, *bursts: tuple[int, bytes]) -> Play:
         """A play that is shown bursts, each for a slot, a second apart."""
         site = Site(TWO_CARRIERS)
-        play, carrier = Play(site, Options()), SilentCarrier(site)
+        play, carrier = Play(site, OPTIONS), SilentCarrier(site)
         for slot, octets in bursts:
             play.receive_burst(carrier, slot, code.burst_of(octets), carrier.sent + 0.5)
             carrier.sent += 1
@@ -112,6 +103,6 @@ class Played(unittest.TestCase):
 
     def test_a_flipped_burst_is_a_fault(self) -> None:
         site = Site(TWO_CARRIERS)
-        play = Play(site, Options())
+        play = Play(site, OPTIONS)
         play.receive_burst(SilentCarrier(site), 0, code.burst_of(ALOHA, [5]), 1.0)
         self.assertEqual(sum(play.faults.values()), 1)

@@ -178,7 +178,7 @@ class Player:
         regi = self.site.plan["regi"]
         match step.split():
             case [".."]:
-                time.sleep(2 * self.site.tick_seconds)
+                time.sleep(2 * self.site.plan["tick_ms"] / 1000)
             case [carrier, "comes", "up"]:
                 self.come_up(self.site.row(int(carrier)))
             case [carrier, "is", "lost"]:

@@ -31,7 +31,7 @@ import argparse
 import sys
 from collections.abc import Sequence
 
-from temzaar.cli.command import amount_above, clean_up_on_signals, count_of, parse_words, report_fault, run_command
+from temzaar.cli.command import amount_above, command_of, count_of, new_parser, parse_words, report_fault
 from temzaar.faults import ToolFault
 from temzaar.frames import VERSIONS
 from temzaar.player import Play
@@ -43,7 +43,7 @@ from temzaar.trouble import TroubledPlay
 
 def read_words(words: Sequence[str] | None) -> argparse.Namespace:
     """The words of the command line."""
-    parser = argparse.ArgumentParser(description=__doc__, formatter_class=argparse.RawDescriptionHelpFormatter)
+    parser = new_parser(__doc__)
     parser.add_argument("--site", required=True, help="the site file")
     parser.add_argument("--program", help="start this controller, on loopback, and stop it again")
     parser.add_argument("--pid", type=count_of(1, 1 << 22), help="the process of a controller that runs, to print its share of a processor")
@@ -102,8 +102,4 @@ def play_with_controller(options: argparse.Namespace) -> int:
             controller.stop()
 
 
-def main(words: Sequence[str] | None = None) -> int:
-    """Runs the command. The status."""
-    options = read_words(words)
-    clean_up_on_signals()
-    return run_command("carriers", lambda: play_with_controller(options))
+main = command_of("carriers", read_words, play_with_controller)

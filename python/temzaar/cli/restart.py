@@ -36,9 +36,9 @@ from collections.abc import Sequence
 from typing import NamedTuple
 
 from temzaar.cli.check import PROGRAM, ask_controller, find_controller, read_site
-from temzaar.cli.command import DONE, amount_above, clean_up_on_signals, parse_words, run_command
+from temzaar.cli.command import DONE, amount_above, command_of, new_parser, parse_words
 from temzaar.console import Console
-from temzaar.faults import ToolFault
+from temzaar.faults import ToolFault, reason_of
 from temzaar.hubconsole import HubConsole, find_hub
 from temzaar.moments import short_text
 from temzaar.plannedstop import (
@@ -68,8 +68,7 @@ class LateFault(RestartFault):
 
 def read_words(words: Sequence[str] | None) -> argparse.Namespace:
     """The words of the command line."""
-    layout = argparse.RawDescriptionHelpFormatter
-    parser = argparse.ArgumentParser(description=__doc__, formatter_class=layout)
+    parser = new_parser(__doc__)
     parser.add_argument("--site", metavar="FILE", default=DEFAULT_SITE,
                         help=f"the site file ({DEFAULT_SITE})")
     parser.add_argument("--records", metavar="FILE", default=DEFAULT_PATH,
@@ -173,8 +172,7 @@ class Restart:
                 done = subprocess.run(words, stdin=subprocess.DEVNULL, stdout=output, stderr=output,
                                       timeout=COMMAND_SECONDS, check=False)
             except (OSError, ValueError) as fault:
-                reason = fault.strerror if isinstance(fault, OSError) else fault
-                raise RestartFault(f"cannot run {words[0]}: {reason}") from fault
+                raise RestartFault(f"cannot run {words[0]}: {reason_of(fault)}") from fault
             except subprocess.TimeoutExpired as fault:
                 raise RestartFault(f"{command} did not end within {COMMAND_SECONDS:g} s") from fault
             output.seek(0)
@@ -251,8 +249,4 @@ def restart_site(options: argparse.Namespace) -> int:
     return ready.restart.stop_and_return(ready.before, ready.last)
 
 
-def main(words: Sequence[str] | None = None) -> int:
-    """Runs the command. The status."""
-    options = read_words(words)
-    clean_up_on_signals()
-    return run_command("restart", lambda: restart_site(options))
+main = command_of("restart", read_words, restart_site)

@@ -362,11 +362,6 @@ class Kept(ArchiveCase):
         self.assertEqual((done.returncode, self.names()), (1, ["2026-09.db", "notes.db"]))
         self.assertEqual(done.stderr, f"archive: {self.folder}/2026-09.db: file is not a database\n")
 
-    def test_words(self) -> None:
-        done = self.run_at(self.now, "--older-days", "7", "--keep-days", "7")
-        self.assertEqual(done.returncode, 2)
-        self.assertIn("--keep-days has to be greater than --older-days", done.stderr)
-
 
 class Interrupted(ArchiveCase):
     """Runs that are killed, or cannot write."""

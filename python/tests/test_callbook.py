@@ -231,9 +231,7 @@ class Filtered(RecordsCase):
         for words, numbers in ((["--from", "-2h"], [5]), (["--from", "-90m"], []), (["--from=-6100s"], [5]), (["--from", "-1d", "--to", "-1s"], [5]), (["--to", "-2h"], [1, 2, 3, 4])):
             self.assertEqual(self.numbers(*words), numbers, words)
 
-    def test_words_that_are_wrong(self) -> None:
-        for words in (["--radio", "0"], ["--group", "16777216"], ["--carrier", "16"], ["--cause", "hang"], ["--last", "0"], ["--format", "xml"], ["--from"], ["--seconds", "0"], ["--from", "-2x"]):
-            self.assertEqual(call_tool(main, "--records", str(self.path), *words).returncode, 2, words)
+    def test_times_that_are_none(self) -> None:
         for text in ("noon", "25:00", "2026-13-01", "2026-11-27 8", "", "-2h3"):
             self.expect_fault(f"not a time: {text!r}; a time is 2026-11-27, 2026-11-27 08:00, 08:00 (today), or -2h (also s, m and d)", f"--from={text}")
 

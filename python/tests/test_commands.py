@@ -95,12 +95,29 @@ CASES = (
     *(Case("carriers", f"--site {{site}} {words}", 2, said) for words, said in (
         ("--seconds -1", "not a number above 0"), ("--seconds nan", "not a number above 0"), ("--radios 0", "not a whole number from 1"), ("--carriers 17", "not a whole number from 1 to 16"),
         ("--port 65530", "not a whole number from 1"), ("--polls x", "not a whole number from 0"), ("--link-version 3", "invalid choice"), ("--faults", "--faults needs --program"))),
-    *(Case("timeline", f"{DRAW} {words}", 2, said) for words, said in (("--page x", "not a number above 0"), ("--calls x", "invalid choice"), ("--page 1", "--page needs --out"))),
+    *(Case("timeline", f"{DRAW} {words}", 2, said) for words, said in (
+        *((f"--page {it}", "not a number above 0") for it in ("x", "0", "nan")), ("--calls x", "invalid choice"), ("--page 1", "--page needs --out"),
+        ("--page 1 --calls --out a", "--page draws, and --calls lists"))),
+    *(Case("timeline", f"--records {{none}} {words}", 2, said) for words, said in (
+        ("--calls", "--records has no script"), ("--script a", "--records has no script"), ("--start 10:00", "--records has no script"),
+        ("--program a", "not allowed with"), ("--page 1", "--page needs --out"))),
+    *(Case("timeline", words, 2, "the following arguments are required: --site, --script") for words in ("--program a", "--site a --printed b", "--script a --printed b")),
     *(Case("conform", f"--site {{site}} --program {{program}} {words}", 2, said) for words, said in (("--row x", "invalid choice"), ("--wait 0", "not a number above 0"))),
-    *(Case("check", words, 2, said) for words, said in (("--link-version 3 {site}", "invalid choice"), ("{site} {site}", "unrecognized arguments"))),
-    *(Case("callbook", words, 2, said) for words, said in (("--radio x", "not a whole number from 1"), ("--format xml", "invalid choice"), ("site.db", "unrecognized arguments"))),
-    *(Case("report", words, 2, said) for words, said in (("--slots 0", "not a whole number from 1"), ("--limit x", "not a number above 0"), ("--slots 3 --site {site}", "not allowed with"))),
-    *(Case("archive", words, 2, said) for words, said in (("--keep-days 0", "not a whole number from 1"), ("--older-days x", "not a whole number from 0"), ("2026-11.db", "unrecognized arguments"))),
+    *(Case("check", words, 2, said) for words, said in (
+        ("--link-version 3 {site}", "invalid choice"), ("{site} {site}", "unrecognized arguments"), ("", "the following arguments are required: SITE_FILE"),
+        ("--radios 3 site.toml", "--radios needs --plan"), ("--share 3 site.toml", "--share needs --plan"), ("--plan site.toml", "--plan takes no site file"),
+        ("--plan --names names.csv", "--plan takes no site file and no names"), ("--plan --radios 3", "--plan needs --radios, --calls-an-hour and --seconds"),
+        ("--plan --share 101", "at most 100"), ("--plan --radios 4097", "from 1 to 4096"))),
+    *(Case("callbook", words, 2, said) for words, said in (
+        ("--radio x", "not a whole number from 1"), ("--radio 0", "from 1 to 16777215"), ("--group 16777216", "from 1 to 16777215"), ("--carrier 16", "from 0 to 15"),
+        ("--cause hang", "invalid choice"), ("--last 0", "not a whole number from 1"), ("--format xml", "invalid choice"), ("--from", "expected one argument"),
+        ("--seconds 0", "not a number above 0"), ("--from -2x", "expected one argument"), ("site.db", "unrecognized arguments"))),
+    *(Case("report", words, 2, said) for words, said in (
+        *((f"--slots {it}", "not a whole number from 1 to 31") for it in (0, 32)), *((f"--limit {it}", "not a number above 0") for it in ("x", 0)),
+        ("--slots 3 --site {site}", "not allowed with"), ("--out x --format csv", "not allowed with"), ("--format html", "invalid choice"))),
+    *(Case("archive", words, 2, said) for words, said in (
+        ("--keep-days 0", "not a whole number from 1"), ("--older-days x", "not a whole number from 0"), ("2026-11.db", "unrecognized arguments"),
+        ("--older-days 7 --keep-days 7", "--keep-days has to be greater than --older-days"))),
     *(Case("restart", f"--site {{site}} {words}", 2, said) for words, said in (("--within 0", "not a number above 0"), ("--back x", "not a number above 0"), ("now", "unrecognized arguments"))),
     *(Case("hub", words, 2, said) for words, said in (("--config", "expected one argument"), ("status", "unrecognized arguments"))),
     *(Case("console", f"{words} status", 2, said) for words, said in (

@@ -14,7 +14,7 @@ import xml.etree.ElementTree
 from collections.abc import Callable
 from unittest import mock
 
-from temzaar.cli import callbook, carriers, check, console, hub, siteview, timeline
+from temzaar.cli import callbook, carriers, check, console, hub, restart, siteview, timeline
 from temzaar.cli.command import print_note
 from temzaar.frames import FROM_CARRIER, POLL, Cutter, hello
 from temzaar.hub import notes
@@ -102,7 +102,8 @@ class Words(unittest.TestCase):
         cases: tuple[tuple[Callable[[list[str]], int], tuple[str, ...]], ...] = (
             (carriers.main, ("--site", none, "--program", "")), (console.main, ("--socket", "", "status")),
             (timeline.main, ("--site", none, "--script", none, "--program", "")), (timeline.main, ("--records", "")), (callbook.main, ("--records", "")),
-            (siteview.main, ("--hub", "", "--once")), (hub.main, ("--records", "")), (hub.main, ("--config=",)), (check.main, ("--controller", "", TWO_CARRIERS)))
+            (siteview.main, ("--hub", "", "--once")), (hub.main, ("--records", "")), (hub.main, ("--config=",)), (check.main, ("--controller", "", TWO_CARRIERS)),
+            (restart.main, ("--command", "")))
         for main, words in cases:
             with self.subTest(words):
                 done = call_tool(main, *words)

@@ -160,14 +160,6 @@ class RecordsTimeline(FolderCase):
         empty = make_records(self.folder / "empty.db", terms=0)
         self.assertEqual(call_tool(main, "--records", str(empty)).stderr, f"timeline: {empty}: it has no term yet\n")
 
-    def test_words(self) -> None:
-        for words in (["--calls"], ["--script", "a"], ["--start", "10:00"], ["--program", "a"], ["--page", "1"]):
-            self.assertEqual(call_tool(main, "--records", str(self.path), *words).returncode, 2, words)
-        for words in (["--program", "a"], ["--site", "a", "--printed", "b"], ["--script", "a", "--printed", "b"]):
-            done = call_tool(main, *words)
-            self.assertEqual(done.returncode, 2)
-            self.assertIn("the following arguments are required: --site, --script", done.stderr)
-
 
 class Restarts(unittest.TestCase):
     """When the controller was started again."""

@@ -428,10 +428,6 @@ class OnThePage(ReportCase):
             done = call_tool(command.main, "--records", str(self.path), "--out", path)
             self.assertEqual((done.returncode, done.stderr), (1, f"report: {path}: {said}\n"))
 
-    def test_words(self) -> None:
-        for words in (("--slots", "0"), ("--slots", "32"), ("--slots", "3", "--site", TWO_CARRIERS), ("--out", "x", "--format", "csv"), ("--limit", "0"), ("--format", "html")):
-            self.assertEqual(call_tool(command.main, *words).returncode, 2, words)
-
 
 class InABrowser(ReportCase):
     """The page as Chromium shows it."""

@@ -314,10 +314,7 @@ class Faults(unittest.TestCase):
                 done = self.draw(expected, *words)
                 self.assertEqual((done.returncode, done.stdout, done.stderr), (1, "", f"timeline: {said}\n"))
 
-    def test_words_that_contradict(self) -> None:
-        for words in (["--page", "1"], ["--page", "1", "--calls", "--out", "a"], ["--page", "0"], ["--page", "nan"], ["--calls", "yaml"]):
-            done = run_example("operator", *words)
-            self.assertEqual((done.returncode, done.stdout), (2, ""), words)
+    def test_words_for_no_part_of_it(self) -> None:
         for words in (["--from", "200"], ["--from", "1", "--to", "0"], ["--to", "10:15"], ["--start", "noon"]):
             done = run_example("operator", *words)
             self.assertEqual((done.returncode, done.stdout), (1, ""), words)

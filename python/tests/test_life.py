@@ -6,16 +6,17 @@ import contextlib
 import pathlib
 import re
 import socket
+import threading
 import time
 import unittest
 from typing import Any
 
 from temzaar import code, pdus
 from temzaar.console import Console
-from temzaar.frames import POLL, hello, rx
+from temzaar.frames import POLL, active, hello, rx
 from temzaar.process import connect
 from tests.served_kit import Carrier, free_site, received, served
-from tests.support import SITES, TWO_CARRIERS
+from tests.support import SITES, TWO_CARRIERS, wait_until
 
 SIXTEEN_CARRIERS = str(SITES / "sixteen_carriers.toml")
 # the seconds after which an answer, an end or a note is late even on a busy machine
@@ -29,6 +30,11 @@ def wakeups(pid: int) -> int:
     threads = pathlib.Path(f"/proc/{pid}/task").glob("*/status")
     texts = [it.read_text(encoding="utf-8") for it in threads]
     return sum(int(re.findall(r"\nvoluntary_ctxt_switches:\s+(\d+)", it)[0]) for it in texts)
+
+
+def page_faults(pid: int) -> int:
+    """How often a process has touched a page of memory that it did not have yet."""
+    return int(pathlib.Path(f"/proc/{pid}/stat").read_text(encoding="utf-8").rpartition(")")[2].split()[7])
 
 
 class Served(unittest.TestCase):
@@ -163,3 +169,34 @@ class Connections(Served):
             second.sendall(b"status\n")
             second.shutdown(socket.SHUT_WR)
             self.assertEqual(received(second), b"status carriers 0 radios 0 asks 0 lines 0 calls 0 fill aloha\n")
+
+
+class TermMemory(Served):
+    """A site of two carriers that send nothing but ACTIVE frames, as fast as their ports read. A term ends after less than a second."""
+
+    def flood(self, number: int) -> None:
+        """Sends ACTIVE frames of a carrier until the controller has stopped."""
+        row = self.site.row(number)
+        with connect(self.site.address, row["port"]) as stream, contextlib.suppress(OSError):
+            stream.sendall(hello(number, row["lpcn"]))
+            while True:
+                stream.sendall(active(1) * 100)
+
+    # entries of a term, and pages of the system, of 4,096 octets, that those of one journal take
+    ENTRIES = 4000
+    PAGES = ENTRIES * 568 // 4096
+
+    def test_a_term_takes_over_the_lists_of_the_term_before(self) -> None:
+        """Once each list has had its length, the end of a term touches fewer new pages than one journal has."""
+        self.serve(tick_ms=60, term_entries=self.ENTRIES)
+        senders = [threading.Thread(target=self.flood, args=(number,), daemon=True) for number in (0, 1)]
+        for sender in senders:
+            sender.start()
+        wait_until(lambda: len(self.terms()) >= 4)
+        before, first = page_faults(self.controller.pid), len(self.terms())
+        wait_until(lambda: len(self.terms()) >= first + 5)
+        faults, ends = page_faults(self.controller.pid) - before, len(self.terms()) - first
+        self.controller.stop()
+        for sender in senders:
+            sender.join(10)
+        self.assertLess(faults / ends, self.PAGES / 2, f"{faults} page faults at {ends} ends of terms of {self.PAGES} pages")

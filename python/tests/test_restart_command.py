@@ -13,6 +13,7 @@ import threading
 import time
 from collections import deque
 from collections.abc import Callable
+from typing import Any
 from unittest import mock
 
 from temzaar import code, pdus
@@ -21,8 +22,9 @@ from temzaar.console import Console, Status
 from temzaar.frames import POLL, hello, rx
 from temzaar.hubconsole import VARIABLE
 from temzaar.picture import take_picture
-from temzaar.plannedstop import MOST_NAMED, Seen, lost_lines, named
+from temzaar.plannedstop import MOST_NAMED, Seen, lost_lines, named, wait_for_term
 from temzaar.process import Controller
+from temzaar.records import RecordedTerm
 from temzaar.sitefile import Site
 from tests.fake_console import FakeConsole
 from tests.hub_support import HubCase
@@ -212,11 +214,13 @@ class Answered(RestartCase):
             self.start_again()
             self.fake.radios -= {1003, 1040}
 
-        # while the tool waits, a term is recorded
-        timer = threading.Timer(0.5, add_term, (self.records, 2))
-        timer.start()
-        self.addCleanup(timer.join)
-        done = self.run_tool(self.restarter(without_two).command)
+        def wait(*words: Any) -> RecordedTerm | None:
+            """Waits as the tool does; meanwhile a term is recorded."""
+            threading.Timer(0.3, add_term, (self.records, 2)).start()
+            return wait_for_term(*words)
+
+        with mock.patch.object(restart, "wait_for_term", wait):
+            done = self.run_tool(self.restarter(without_two).command)
         self.assertEqual((done.returncode, done.stderr), (3, ""))
         self.assertIn("lost: 2 calls, 1 request in the queue\n  call 0/1 group 91 from 1001\n  call 1/0 radio 1002 from 1003\n  request group 94 from 1004\n", done.stdout)
         self.assertIn("term 2 ended, after ", done.stdout)

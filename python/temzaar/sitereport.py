@@ -35,11 +35,6 @@ class Style(enum.Enum):
 REFUSAL = "dmr_trunk: site file: "
 
 
-def controller_text(fault: str) -> str:
-    """The controller's line for a fault."""
-    return f"{REFUSAL}{fault}"
-
-
 @dataclass(frozen=True)
 class Verdict:
     """What the controller said of a site file: its own text, or none if it accepts it."""
@@ -49,7 +44,7 @@ class Verdict:
     @property
     def words(self) -> str:
         """What it said, in words."""
-        return f"{self.program} refuses it: {controller_text(self.fault)}" if self.fault else f"{self.program} accepts it"
+        return f"{self.program} refuses it: {REFUSAL}{self.fault}" if self.fault else f"{self.program} accepts it"
 
 
 @dataclass

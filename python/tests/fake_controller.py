@@ -1,6 +1,6 @@
 #!/usr/bin/env python3
-"""A controller for tests of the tools if none was built: it accepts each site file that the tools
-read, and listens on the ports of the site without an answer.
+"""A controller for tests of the tools if none was built. It accepts each site file that the tools
+read, listens on the ports of the site, and answers nothing.
 
     fake_controller --site FILE --serve
     fake_controller --site FILE --script FILE

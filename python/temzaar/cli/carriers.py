@@ -28,6 +28,7 @@ Use it before a site goes into service, not on a site in use: the controller tak
 Status: 0 all checks passed; 1 a check failed, or the controller did not listen or ended; 2 the words.
 """
 import argparse
+import contextlib
 import sys
 from collections.abc import Sequence
 
@@ -94,12 +95,8 @@ def play_site(options: argparse.Namespace, controller: Controller | None) -> int
 
 def play_with_controller(options: argparse.Namespace) -> int:
     """Plays, with a controller that is started if the words say so, and stopped after success and failure alike. The status."""
-    controller = Controller(options.program, options.served) if options.program else None
-    try:
+    with Controller(options.program, options.served) if options.program else contextlib.nullcontext() as controller:
         return play_site(options, controller)
-    finally:
-        if controller:
-            controller.stop()
 
 
 main = command_of("carriers", read_words, play_with_controller)

@@ -9,7 +9,7 @@ from typing import NamedTuple
 
 from temzaar import code, pdus
 from temzaar.frames import Link
-from temzaar.player import Backoff, Play, Slots
+from temzaar.player import Backoff, Play, Sign, overlaps, sign_of
 from temzaar.sitefile import Site
 from tests.support import TWO_CARRIERS
 
@@ -54,13 +54,8 @@ class Signs(unittest.TestCase):
     def test_sights(self) -> None:
         for case in SIGHTS:
             with self.subTest(case.name):
-                slots = Slots()
-                for sign, since, received in case.signs:
-                    if sign == "X":
-                        slots.lose(1, since, received)
-                    else:
-                        (slots.grant if sign[0] in "GL" else slots.clear)((1, 1), pdus.read(pdu_octets(sign)), since, received)
-                self.assertEqual(slots.overlaps(), case.overlaps)
+                signs = [Sign(False, (), *times) if sign == "X" else sign_of(pdus.read(pdu_octets(sign)), *times) for sign, *times in case.signs]
+                self.assertEqual(overlaps(signs), case.overlaps)
 
 
 OPTIONS = Namespace(radios=4, seed=1, link_version=None, seconds=1.0, polls=0, fast=False)
@@ -91,7 +86,7 @@ class Played(unittest.TestCase):
         late, fill = pdu_octets("L91/1001"), ALOHA
         play = self.play((0, pdu_octets("G91/1001")), (0, fill), (0, fill), (0, fill), (0, late), (0, bytes(10)), (0, late))
         self.assertEqual(list(play.radios.talkers), [(0, 1)])
-        counted = play.counts["grants"], play.counts["late grants"], play.slots.overlaps(), sum(play.faults.values())
+        counted = play.counts["grants"], play.counts["late grants"], sum(map(overlaps, play.signs.values())), sum(play.faults.values())
         self.assertEqual(counted, (1, 2, 0, 0))
 
     def test_nobody_talks_for_a_late_grant_alone(self) -> None:
@@ -99,7 +94,7 @@ class Played(unittest.TestCase):
 
     def test_a_call_on_anothers_slot(self) -> None:
         play = self.play((1, pdu_octets("C91")), (0, ALOHA), (0, pdu_octets("G91/1001")), (0, pdu_octets("G92/1002")))
-        self.assertEqual(play.slots.overlaps(), 1)
+        self.assertEqual(sum(map(overlaps, play.signs.values())), 1)
 
     def test_a_flipped_burst_is_a_fault(self) -> None:
         site = Site(TWO_CARRIERS)

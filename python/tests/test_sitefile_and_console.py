@@ -3,7 +3,6 @@ import os
 import pathlib
 import re
 import socket
-import tempfile
 import threading
 import tomllib
 import unittest
@@ -11,10 +10,10 @@ import unittest
 from temzaar.console import Console, ConsoleFault, Parties, Status, read_calls, read_lines, read_radios, read_slots
 from temzaar.hubconsole import HubConsole
 from temzaar.sitefile import ConsolePlace, Site, SiteFault, read_console_place
-from tests.support import TWO_CARRIERS
+from tests.support import TWO_CARRIERS, FolderCase
 
 
-class SiteFile(unittest.TestCase):
+class SiteFile(FolderCase):
     """A site and its copies."""
 
     def test_text_reads_back(self) -> None:
@@ -35,18 +34,14 @@ class SiteFile(unittest.TestCase):
     def test_place_of_the_console(self) -> None:
         """`silence` is 1 to 65535 waits of 100 ms."""
         text = pathlib.Path(TWO_CARRIERS).read_text(encoding="utf-8")
-        with tempfile.NamedTemporaryFile("w", suffix=".toml", encoding="utf-8") as file:
-            for line, wanted in (("silence = 1", 0.1), ("silence = 65535", 6553.5), ("silence = 0", "out of range silence"), ("silence = 65536", "out of range silence"),
-                                 ('silence = "5"', "wrong type silence"), ("silence = true", "wrong type silence"), ("", "missing silence")):
-                with self.subTest(line):
-                    file.seek(0)
-                    file.truncate()
-                    file.write(re.sub(r"(?m)^silence = .*$", line, text))
-                    file.flush()
-                    if isinstance(wanted, str):
-                        self.assertRaisesRegex(SiteFault, f"^site file {re.escape(file.name)}: {wanted}$", read_console_place, file.name)
-                    else:
-                        self.assertEqual(read_console_place(file.name), ConsolePlace("127.0.0.1", 7100, wanted, 10000, 60))
+        for line, wanted in (("silence = 1", 0.1), ("silence = 65535", 6553.5), ("silence = 0", "out of range silence"), ("silence = 65536", "out of range silence"),
+                             ('silence = "5"', "wrong type silence"), ("silence = true", "wrong type silence"), ("", "missing silence")):
+            with self.subTest(line):
+                path = str(self.write("site.toml", re.sub(r"(?m)^silence = .*$", line, text)))
+                if isinstance(wanted, str):
+                    self.assertRaisesRegex(SiteFault, f"^site file {re.escape(path)}: {wanted}$", read_console_place, path)
+                else:
+                    self.assertEqual(read_console_place(path), ConsolePlace("127.0.0.1", 7100, wanted, 10000, 60))
 
     def test_radios_are_admitted(self) -> None:
         site = Site(TWO_CARRIERS)
@@ -77,7 +72,7 @@ class Replies(unittest.TestCase):
         self.assertRaises(ConsoleFault, read_radios, ["radio x"])
 
 
-class Connection(unittest.TestCase):
+class Connection(FolderCase):
     """A console over a socket on loopback, its other side played here."""
 
     def serve(self, answer: bytes) -> int:
@@ -107,10 +102,11 @@ class Connection(unittest.TestCase):
             self.assertRaisesRegex(ConsoleFault, "ended the connection", console.ask, "status")
 
     def test_a_refusal_that_came_before_the_line(self) -> None:
-        with tempfile.TemporaryDirectory() as folder, socket.socket(socket.AF_UNIX) as listener:
-            listener.bind(os.path.join(folder, "console.sock"))
+        path = str(self.folder / "console.sock")
+        with socket.socket(socket.AF_UNIX) as listener:
+            listener.bind(path)
             listener.listen()
-            with HubConsole(os.path.join(folder, "console.sock")) as console:
+            with HubConsole(path) as console:
                 stream, _ = listener.accept()
                 with stream:
                     stream.sendall(b"error the user x has no role here\n")

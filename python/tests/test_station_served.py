@@ -2,7 +2,6 @@
 import random
 import re
 import subprocess
-import tempfile
 import unittest
 from typing import Any
 
@@ -13,7 +12,7 @@ from temzaar.sitefile import Site
 from tests import test_link
 from tests.served_kit import PATIENCE, free_site, served
 from tests.station_kit import FAST, ask, built, compilers
-from tests.support import program
+from tests.support import FolderCase, program
 from tests.test_station import Reference, flipped
 
 # a frame of the example, in milliseconds, so that a test is soon over; requests are repeated each eighth frame
@@ -79,7 +78,7 @@ class Radio(unittest.TestCase):
             self.assertEqual(radios, ["radio 1001"])
 
 
-class Receiver(unittest.TestCase):
+class Receiver(FolderCase):
     """What the example receives from a file, and transmits."""
 
     def test_a_file(self) -> None:
@@ -92,10 +91,8 @@ class Receiver(unittest.TestCase):
         lines = ["0 " + bursts[0], "", "0 " + bursts[1], "", "1 " + bursts[2], *(f"0 {it}" for it in bursts[3:]), "", "0 " + bursts[2], ""]
         lines += [line for _ in range(20) for line in ("1 voice", "")]
         site = free_site(hang=4)
-        with served(site), tempfile.NamedTemporaryFile("w") as file:
-            file.write("".join(f"{line}\n" for line in lines))
-            file.flush()
-            done = example(site, "-n", "40", "-x", "-f", file.name)
+        with served(site):
+            done = example(site, "-n", "40", "-x", "-f", str(self.write("heard", "".join(f"{line}\n" for line in lines))))
             radios = asked(site, "radios 1000")
         sent = re.findall(r"^transmits (\d) (\w+)$", done.stdout, re.M)
         made = ask(f"make {test_link.BURSTS[name].hex()} 0 1 3" for name in test_link.BURSTS)

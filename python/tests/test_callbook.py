@@ -113,8 +113,7 @@ class Printed(RecordsCase):
 
     def test_names(self) -> None:
         """With names: next to the numbers of the table, cut to their column; in CSV and JSON after the other columns, which stay as they are."""
-        names = self.folder / "names.csv"
-        names.write_text("kind,number,name\nradio,1001,Bus 12\nradio,1002,\"=1+1,a\"\nradio,1003\ntalkgroup,91,Linienbus Nordring Süd\ntalkgroup,1001,nobody\ncarrier,1,東京\n", encoding="utf-8")
+        names = self.write("names.csv", "kind,number,name\nradio,1001,Bus 12\nradio,1002,\"=1+1,a\"\nradio,1003\ntalkgroup,91,Linienbus Nordring Süd\ntalkgroup,1001,nobody\ncarrier,1,東京\n")
         words = ["--records", str(self.path), "--names", str(names)]
         done = call_tool(main, *words)
         self.assertEqual((done.returncode, done.stdout), (0, NAMED_TABLE + GAP + UNTIL))
@@ -138,8 +137,7 @@ class Printed(RecordsCase):
         """Of the second version of the tables: in each format, and with names."""
         self.path = make_records(self.folder / "second.db", version=2)
         self.assertEqual(call_tool(main, "--records", str(self.path)).stdout, WITH_WAITS + GAP + UNTIL)
-        names = self.folder / "names.csv"
-        names.write_text("radio,1004,Bus 4\n", encoding="utf-8")
+        names = self.write("names.csv", "radio,1004,Bus 4\n")
         words = ["--records", str(self.path), "--names", str(names), "--format"]
         rows = list(csv.DictReader(call_tool(main, *words, "csv").stdout.splitlines()))
         self.assertEqual([(it["waited_seconds"], it["joined"], it["joined_names"]) for it in rows],

@@ -6,7 +6,6 @@ import json
 import pathlib
 import re
 import subprocess
-import tempfile
 import unittest
 import unittest.mock
 
@@ -29,7 +28,7 @@ def outcome(name: str, status: int | None, last: str = "a last line") -> object:
     return steps.Outcome(steps.Step(name, ["true"], 1), status, 1.0, last)
 
 
-class Steps(unittest.TestCase):
+class Steps(FolderCase):
     """The commands of a release."""
 
     def test_short_run_has_the_same_steps(self) -> None:
@@ -64,12 +63,10 @@ class Steps(unittest.TestCase):
 
     def test_outcomes(self) -> None:
         """A step that fails, one that does not start, and one that passes: their status and their last line."""
-        with tempfile.TemporaryDirectory() as folder:
-            at, log = pathlib.Path(folder), pathlib.Path(folder) / "log.txt"
-            for words, status, last in ((["sh", "-c", "echo first; echo last"], 0, "last"), (["sh", "-c", "echo why >&2; exit 3"], 3, "why"), (["./missing"], 127, "./missing: No such file or directory")):
-                with self.subTest(words):
-                    got = steps.run_step(steps.Step("a step", words, 1), at, log)
-                    self.assertEqual((got.status, got.last), (status, last))
+        for words, status, last in ((["sh", "-c", "echo first; echo last"], 0, "last"), (["sh", "-c", "echo why >&2; exit 3"], 3, "why"), (["./missing"], 127, "./missing: No such file or directory")):
+            with self.subTest(words):
+                got = steps.run_step(steps.Step("a step", words, 1), self.folder, self.folder / "log.txt")
+                self.assertEqual((got.status, got.last), (status, last))
 
 
 class Runs(FolderCase):
@@ -138,21 +135,18 @@ class Runs(FolderCase):
         self.assertEqual((folder / "dmr_trunk").read_text(encoding="ascii"), "dmr_trunk")
 
 
-class Texts(unittest.TestCase):
+class Texts(FolderCase):
     """The texts that commands of the sources print."""
 
     def test_written(self) -> None:
         """Each is what its command prints in the clone. If a command fails, so does the release."""
-        with tempfile.TemporaryDirectory() as room:
-            clone, to = pathlib.Path(room) / "clone", pathlib.Path(room)
-            for name, *_ in command.TEXTS.values():
-                (clone / name).parent.mkdir(parents=True, exist_ok=True)
-                (clone / name).write_text('#!/bin/sh\necho "${0##*/} $*"\n', encoding="ascii")
-                (clone / name).chmod(0o755)
-            command.write_texts(clone, to)
-            self.assertEqual({it: (to / it).read_text(encoding="ascii") for it in command.TEXTS}, {"TRUSTED.txt": "trusted-definitions --sources\n", "CLAUSES.txt": "clauses \n"})
-            (clone / "ci/clauses").write_text("#!/bin/sh\nexit 1\n", encoding="ascii")
-            self.assertRaises(subprocess.CalledProcessError, command.write_texts, clone, to)
+        clone, to = self.folder / "clone", self.folder
+        for name, *_ in command.TEXTS.values():
+            self.write(f"clone/{name}", '#!/bin/sh\necho "${0##*/} $*"\n').chmod(0o755)
+        command.write_texts(clone, to)
+        self.assertEqual({it: (to / it).read_text(encoding="ascii") for it in command.TEXTS}, {"TRUSTED.txt": "trusted-definitions --sources\n", "CLAUSES.txt": "clauses \n"})
+        self.write("clone/ci/clauses", "#!/bin/sh\nexit 1\n")
+        self.assertRaises(subprocess.CalledProcessError, command.write_texts, clone, to)
 
     def test_commands_exist(self) -> None:
         for name, *_ in command.TEXTS.values():
@@ -184,7 +178,7 @@ class Begins(FolderCase):
                 command.begin(self.folder, False, True)
 
 
-class Records(unittest.TestCase):
+class Records(FolderCase):
     """RECORD.md, and the digests."""
 
     def text(self, outcomes: list[object], short: bool = False, more: tuple[object, ...] = (), longer: tuple[object, ...] = ()) -> str:
@@ -218,12 +212,10 @@ class Records(unittest.TestCase):
 
     def test_sums(self) -> None:
         """`sha256sum -c` accepts the digests."""
-        with tempfile.TemporaryDirectory() as folder:
-            at = pathlib.Path(folder)
-            (at / "a").write_bytes(b"octets\n")
-            (at / "SHA256SUMS").write_text(record.sums_of(at, ["a"]), encoding="utf-8")
-            self.assertIn(hashlib.sha256(b"octets\n").hexdigest(), (at / "SHA256SUMS").read_text(encoding="utf-8"))
-            subprocess.run(["sha256sum", "--quiet", "-c", "SHA256SUMS"], cwd=at, check=True)
+        self.write("a", "octets\n")
+        sums = self.write("SHA256SUMS", record.sums_of(self.folder, ["a"]))
+        self.assertIn(hashlib.sha256(b"octets\n").hexdigest(), sums.read_text(encoding="utf-8"))
+        subprocess.run(["sha256sum", "--quiet", "-c", "SHA256SUMS"], cwd=self.folder, check=True)
 
     def test_machine_has_no_name(self) -> None:
         """The record does not name the host."""
@@ -244,7 +236,7 @@ class Version(unittest.TestCase):
             self.assertGreaterEqual([int(it) for it in version.split(".")], [int(it) for it in released[0][0].split(".")])
 
 
-class Components(unittest.TestCase):
+class Components(FolderCase):
     """The list of components."""
 
     def test_crates(self) -> None:
@@ -259,10 +251,11 @@ class Components(unittest.TestCase):
             ("archive ab\ncommit cd\n", ("compiler",), "has no such line"),
             (None, ("archive", "commit", "compiler"), "cannot be read: No such file or directory"),
         ):
-            with self.subTest(text), tempfile.TemporaryDirectory() as folder:
+            with self.subTest(text):
+                (self.folder / "WHAT").unlink(missing_ok=True)
                 if text is not None:
-                    (pathlib.Path(folder) / "WHAT").write_text(text, encoding="ascii")
-                with unittest.mock.patch.multiple(components, ask_rt=lambda *_: f"{folder}/START-HERE.md\n", read_kit=lambda: "kit-1 logic c0ffee"):
+                    self.write("WHAT", text)
+                with unittest.mock.patch.multiple(components, ask_rt=lambda *_: f"{self.folder}/START-HERE.md\n", read_kit=lambda: "kit-1 logic c0ffee"):
                     identity = components.read_identity()
                 wanted = [f"{it} not known: the toolchain's file WHAT {why}" if it in unknown else line for it, line in lines.items()]
                 self.assertEqual(identity, ["kit-1 logic c0ffee", *wanted])

@@ -24,8 +24,7 @@ comparison of the two means something. One module per subject, lowest first:
     picture     a picture of a served site, made of several answers of its console
     process     a controller that a tool starts, or replays a script with; other programs that it starts
     relay       the relay between carriers and a controller, which cuts, joins and withholds
-    grants      which call a grant belongs to
-    calls       the calls of a session: when, whose, how long they waited, and why they ended
+    entries     the journal of a site: its calls, how long they waited, and why they ended
     callsheet   the list of calls as text, CSV and JSON
     clock       ticks and clock times, and windows of them
     drawing     the picture of a session

@@ -19,7 +19,7 @@ from dataclasses import dataclass, field
 from datetime import UTC, datetime
 from typing import NamedTuple
 
-from temzaar.faults import system_fault
+from temzaar.faults import reason_of
 from temzaar.moments import Span, milliseconds_of
 from temzaar.records import LOCK_SECONDS, LOG, Records, RecordsFault, within
 
@@ -91,8 +91,7 @@ class Archive:
         try:
             self.descriptor = os.open(folder, os.O_RDONLY | os.O_DIRECTORY | os.O_CLOEXEC)
         except (OSError, ValueError) as fault:
-            reason = fault.strerror if isinstance(fault, OSError) else fault
-            raise RecordsFault(f"{folder}: {reason}") from fault
+            raise RecordsFault(f"{folder}: {reason_of(fault)}") from fault
         try:
             fcntl.flock(self.descriptor, fcntl.LOCK_EX | fcntl.LOCK_NB)
         except BlockingIOError as fault:
@@ -206,7 +205,7 @@ def make_empty(path: str) -> None:
         finally:
             os.close(descriptor)
     except OSError as fault:
-        raise RecordsFault(str(system_fault(path, fault))) from fault
+        raise RecordsFault(f"{path}: {reason_of(fault)}") from fault
 
 
 def remove_file(path: str) -> None:

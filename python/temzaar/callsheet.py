@@ -1,11 +1,8 @@
 """The list of calls as text, CSV and JSON."""
-import json
-from enum import Enum
-
 from temzaar.clock import Clock, Window
 from temzaar.entries import Call
-from temzaar.names import CALL_FIELDS, NAME_COLUMNS, NO_NAMES, Kind, Names, called_kind, named
-from temzaar.printable import csv_text, text_table
+from temzaar.names import CALL_FIELDS, NO_NAMES, Names, called_kind, kind_of_call
+from temzaar.printable import rows_text, text_table
 
 COLUMNS = ("begun", "ended", "begun_time", "ended_time", "carrier", "slot", "kind", "source", "target", "cause", "waited_ticks", "waited_seconds")
 
@@ -14,16 +11,8 @@ CAUSES = {"": "still active", "hang_time": "hang time", "maximum": "maximum leng
           "ended_by_operator": "ended by the operator", "carrier_lost": "carrier lost"}
 
 
-class ListFormat(Enum):
-    """How the list of calls is written."""
-    TEXT = "text"
-    CSV = "csv"
-    JSON = "json"
-
-
-def kind_of(call: Call) -> str:
-    """The kind of a call."""
-    return "talkgroup" if call.parties.is_group else "individual"
+# How the list may be written.
+FORMATS = ("text", "csv", "json")
 
 
 def call_row(call: Call, clock: Clock, names: Names | None) -> dict[str, str | int | float | None]:
@@ -32,7 +21,7 @@ def call_row(call: Call, clock: Clock, names: Names | None) -> dict[str, str | i
     row = {
         "begun": call.began, "ended": call.ended, "begun_time": clock.full_time(call.began) or None,
         "ended_time": None if call.ended is None else clock.full_time(call.ended) or None,
-        "carrier": call.carrier, "slot": call.slot, "kind": kind_of(call), "source": source, "target": target, "cause": CAUSES[call.cause],
+        "carrier": call.carrier, "slot": call.slot, "kind": kind_of_call(is_group), "source": source, "target": target, "cause": CAUSES[call.cause],
         "waited_ticks": call.waited, "waited_seconds": None if call.waited is None else clock.seconds(call.waited),
     }
     return row if names is None else {**row, **names.of_call(called_kind(is_group), source, target, call.carrier)}
@@ -50,18 +39,14 @@ def text_cells(call: Call, clock: Clock, names: Names) -> list[str]:
         return "-" if tick is None else f"{tick} {clock.time_of_day(tick)}".rstrip()
 
     waited = "-" if call.waited is None else f"{call.waited} ({clock.seconds(call.waited):.1f} s)"
-    source = names.label(Kind.RADIO, call.parties.source, NAME_COLUMNS)
-    target = names.label(called_kind(call.parties.is_group), call.parties.target, NAME_COLUMNS)
-    slot = named(f"{call.carrier}/{call.slot}", names.name_of(Kind.CARRIER, call.carrier), NAME_COLUMNS)
-    return [at(call.began), at(call.ended), slot, kind_of(call), source, target, waited, CAUSES[call.cause]]
+    parties = names.call_cells(call.carrier, call.slot, *call.parties)
+    return [at(call.began), at(call.ended), *parties, waited, CAUSES[call.cause]]
 
 
-def write_list(calls: list[Call], clock: Clock, form: ListFormat, names: Names | None = None) -> str:
-    """The list of calls in a format, with their names if there are any."""
-    if form is ListFormat.TEXT:
+def write_list(calls: list[Call], clock: Clock, form: str, names: Names | None) -> str:
+    """The list of calls in one of the FORMATS, with their names if there are any."""
+    if form == "text":
         head = ["begun", "ended", "slot", "kind", "source", "target", "waited", "cause of the end"]
         return text_table([head, *(text_cells(it, clock, names or NO_NAMES) for it in calls)], [False] * len(head))
     rows = [call_row(it, clock, names) for it in calls]
-    if form is ListFormat.JSON:
-        return json.dumps(rows, indent=2) + "\n"
-    return csv_text(rows, COLUMNS if names is None else (*COLUMNS, *CALL_FIELDS))
+    return rows_text(rows, COLUMNS if names is None else (*COLUMNS, *CALL_FIELDS), form)

@@ -14,7 +14,7 @@ from temzaar import code, pdus
 from temzaar.frames import FrameType, hello, number_after
 from temzaar.player import PERIOD, Play
 from temzaar.process import Command, Controller, connect
-from temzaar.relay import Connection, Connections, Manner, Relay, cut_and_joined, frame_by_frame, with_one_late, without_tx
+from temzaar.relay import Connection, Manner, Relay, cut_and_joined, frame_by_frame, with_one_late, without_tx
 from temzaar.sitefile import FREE_PORTS, Site
 
 VERDICTS = PASSED, FAILED, NOT_TRIED = "passed", "failed", "not tried"
@@ -98,8 +98,7 @@ class Stage:
         require(row != "beside" or others and "{carrier}" in str(options.command), "it needs a second carrier, and {carrier} in the client's command")
         require(not options.absent and (not options.leaves or row in FOR_ALL), options.absent or options.leaves)
         self.carrier = others[0] if row == "beside" else self.site.control
-        self.own, self.kept = self.site.row(self.carrier), Connections(self.carrier)
-        self.connections = self.kept.found
+        self.own, self.connections = self.site.row(self.carrier), list[Connection]()
         if row == "refused":
             self.inner.row(self.carrier)["lpcn"] = next(it for it in range(1, 4095) if it not in self.site.by_lpcn())
         self.serve()
@@ -113,7 +112,7 @@ class Stage:
         self.controller.wait_until_served()
         if self.row == "at-once":
             self.opened.enter_context(connect("127.0.0.1", self.inner.row(self.carrier)["port"]))
-        self.relay = self.opened.enter_context(closing(Relay(self.site, self.inner, self.kept, MANNERS.get(self.row, frame_by_frame))))
+        self.relay = self.opened.enter_context(closing(Relay(self.site, self.inner, self.carrier, self.connections, MANNERS.get(self.row, frame_by_frame))))
 
     def until(self, is_reached: Callable[[], object], seconds: float) -> bool:
         """Passes everything on until something is reached, the client's program has ended, or the time is up. Whether it was reached."""

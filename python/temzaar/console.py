@@ -4,7 +4,7 @@ import time
 from collections.abc import Container
 from dataclasses import dataclass
 
-from temzaar.faults import ToolFault
+from temzaar.faults import ToolFault, reason_of
 from temzaar.printable import printable
 
 # Commands whose reply ends with a line `end`, unless it is an error.
@@ -55,7 +55,7 @@ class Console:
             self.stream = socket.create_connection((address, port), timeout=seconds)
         except (OSError, ValueError) as fault:
             # ValueError: a name that cannot be one of a machine
-            raise ConsoleFault(f"cannot connect to the console {self.name}: {fault.strerror or fault if isinstance(fault, OSError) else fault}") from fault
+            raise ConsoleFault(f"cannot connect to the console {self.name}: {reason_of(fault)}") from fault
         self.stream.setsockopt(socket.IPPROTO_TCP, socket.TCP_NODELAY, 1)
 
     def line(self) -> bytes:
@@ -130,10 +130,6 @@ class Status:
             raise ConsoleFault(f"not a status: {reply[0]}")
         self.counts = {name: int(count) for name, count in zip(words[1:11:2], words[2:11:2], strict=True)}
         self.fill = " ".join(words[12:])
-
-    def is_empty(self) -> bool:
-        """Whether the site is as it is at its start: no carrier, radio or call, and C_ALOHA as the fill."""
-        return not any(self.counts.values()) and self.fill == "aloha"
 
 
 def read_slots(reply: list[str]) -> dict[SlotKey, str]:

@@ -12,9 +12,14 @@ class ToolFault(Exception):
     """Something that a tool cannot use: a file, a port, a controller or an answer. The text names it, and says why."""
 
 
+def reason_of(fault: OSError | ValueError) -> str:
+    """Why a call of the system failed. It is a ValueError if a name has a zero octet."""
+    return (fault.strerror if isinstance(fault, OSError) else None) or str(fault)
+
+
 def system_fault(what: str, fault: OSError) -> ToolFault:
     """The fault of a call of the system that concerns `what`, such as a path."""
-    return ToolFault(f"{what}: {fault.strerror or fault}")
+    return ToolFault(f"{what}: {reason_of(fault)}")
 
 
 # What changes if a file does; None if there is no file.

@@ -1,5 +1,7 @@
 """Moments that people write and read: dates and times of the machine's zone, and times before now; as numbers, milliseconds since 1970."""
 import re
+import sys
+from collections.abc import Sequence
 from datetime import UTC, date, datetime, time, timedelta
 from typing import NamedTuple
 
@@ -72,11 +74,12 @@ def read_moment(text: str, now: datetime, is_end: bool = False) -> int:
         raise MomentFault(f"not a time: {text!r}; a time is {FORMS}") from fault
 
 
-def join_times(words: list[str], options: tuple[str, ...]) -> list[str]:
-    """The words of a command line, in which a time before now such as `-2h` belongs to the option before it. argparse takes it for an option of its own."""
+def join_times(words: Sequence[str] | None) -> list[str]:
+    """The words of a command line, or those of the process, in which a time before now such as `-2h` belongs to the option before it. argparse takes it for an
+    option of its own."""
     joined: list[str] = []
-    for word in words:
-        if joined and joined[-1] in options and RELATIVE.fullmatch(word):
+    for word in sys.argv[1:] if words is None else words:
+        if joined and joined[-1] in ("--from", "--to") and RELATIVE.fullmatch(word):
             joined[-1] = f"{joined[-1]}={word}"
         else:
             joined.append(word)

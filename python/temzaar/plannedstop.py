@@ -121,14 +121,6 @@ class Outcome:
         """The radios that were registered and are not, and that the site file lists."""
         return sorted(it for it in self.before.radios - self.after.radios if self.lists(it))
 
-    def is_whole(self) -> bool:
-        """Whether all came back."""
-        return not self.missing_carriers() and not self.missing_radios()
-
-    def was_not_stopped(self) -> bool:
-        """Whether a call goes on that was active before: no call outlives its controller."""
-        return bool(self.before.calls.items() & self.after.calls.items())
-
     def lines(self) -> Iterator[str]:
         """What came back, as lines for people."""
         before, after = self.before, self.after

@@ -6,8 +6,9 @@ import heapq
 import random
 import selectors
 import time
-from collections import Counter, deque
-from collections.abc import Callable
+from argparse import Namespace
+from collections import Counter, defaultdict, deque
+from collections.abc import Callable, Collection
 from dataclasses import dataclass
 from typing import Any, Protocol
 
@@ -28,17 +29,6 @@ RETRANSMITTED = 0.1
 CONNECTING = 3.0
 
 SlotKey = tuple[int | None, int]
-
-
-class Options(Protocol):
-    """The settings of a play: the command line of `carriers`, or a test's stand-in."""
-    radios: int
-    seed: int
-    link_version: int | None
-    seconds: float
-    polls: int
-    fast: bool
-    troubles: float
 
 
 class Radio:
@@ -184,34 +174,16 @@ class Sign:
         return grant.parties[:len(self.parties)] == self.parties and self.received > grant.since and self.since < before.received
 
 
-class Slots:
-    """The signs that each slot showed: whether one call at a time is active on it."""
+def sign_of(pdu: Pdu, since: float, received: float) -> Sign:
+    """What a grant or a P_CLEAR shows. A grant may have waited since the last fill before its poll."""
+    return Sign(True, granted_parties(pdu), since, received) if is_grant(pdu) else Sign(False, (pdu["group"], pdu["target"]), since, received)
 
-    def __init__(self) -> None:
-        self.signs: dict[SlotKey, list[Sign]] = {}
 
-    def grant(self, key: SlotKey, pdu: Pdu, since: float, received: float) -> None:
-        """A grant names the slot; it may have waited since the last fill before its poll."""
-        self.signs.setdefault(key, []).append(Sign(True, granted_parties(pdu), since, received))
-
-    def clear(self, key: SlotKey, pdu: Pdu, since: float, received: float) -> None:
-        """A P_CLEAR came on the slot."""
-        self.signs.setdefault(key, []).append(Sign(False, (pdu["group"], pdu["target"]), since, received))
-
-    def lose(self, number: int, since: float, received: float) -> None:
-        """A carrier was lost, and is up again."""
-        for slot in (0, 1):
-            self.signs.setdefault((number, slot), []).append(Sign(False, (), since, received))
-
-    def overlaps(self) -> int:
-        """How many grants are of a call on a slot that another call holds: no P_CLEAR and no loss can have ended that one before."""
-        found = 0
-        for signs in self.signs.values():
-            grants = sorted((it for it in signs if it.grants), key=lambda it: it.received)
-            ends = [it for it in signs if not it.grants]
-            for before, grant in zip(grants, grants[1:]):
-                found += grant.parties != before.parties and not any(it.can_end(before, grant) for it in ends)
-        return found
+def overlaps(signs: Collection[Sign]) -> int:
+    """How many grants are of a call on a slot that another call holds: no P_CLEAR and no loss can have ended that one before."""
+    grants = sorted((it for it in signs if it.grants), key=lambda it: it.received)
+    ends = [it for it in signs if not it.grants]
+    return sum(grant.parties != before.parties and not any(it.can_end(before, grant) for it in ends) for before, grant in zip(grants, grants[1:]))
 
 
 class Carrier:
@@ -262,14 +234,17 @@ class Carrier:
 class Play:
     """A whole play: carriers, radios, counts, and what was found wrong."""
 
-    def __init__(self, site: Site, options: Options) -> None:
+    def __init__(self, site: Site, options: Namespace) -> None:
+        """`options` are those of `carriers`."""
         self.site, self.options = site, options
         self.counts: Counter[str] = Counter()
         self.faults: Counter[str] = Counter()
         # seconds from each poll to its DONE
         self.times: list[float] = []
         self.version = options.link_version or site.link_version
-        self.slots, self.by_lpcn = Slots(), site.by_lpcn()
+        self.by_lpcn = site.by_lpcn()
+        # what each slot showed
+        self.signs = defaultdict[SlotKey, list[Sign]](list)
         self.known: dict[bytes, bytes | None] = {}
         self.radios = Radios(site, options.radios, options.seed, self.counts)
 
@@ -316,9 +291,9 @@ class Play:
         granted = self.by_lpcn.get(pdu["lpcn"]) if is_grant(pdu) else None
         if granted is not None:
             # a carrier that is not played has its P_CLEARs sent elsewhere, so its slots cannot be judged
-            self.slots.grant((granted, pdu["slot"]), pdu, carrier.queued_since, now)
+            self.signs[granted, pdu["slot"]].append(sign_of(pdu, carrier.queued_since, now))
         elif pdu.name == "P_CLEAR":
-            self.slots.clear((carrier.number, slot), pdu, carrier.sent, now)
+            self.signs[carrier.number, slot].append(sign_of(pdu, carrier.sent, now))
 
     def run(self) -> float:
         """Plays. How many seconds it took."""
@@ -368,7 +343,7 @@ class Play:
 
     def check_slots(self) -> None:
         """Counts the faults that the slots show."""
-        self.faults["grants on a slot on which another stands"] = self.slots.overlaps()
+        self.faults["grants on a slot on which another stands"] = sum(map(overlaps, self.signs.values()))
         self.faults["registrations acknowledged more often than they were asked for"] = self.radios.not_asked
 
     def judge(self) -> Counter[str]:

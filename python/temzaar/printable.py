@@ -1,6 +1,7 @@
 """Text that came from outside, as a terminal or a spreadsheet may show it; how many columns of a terminal it takes, and tables of it."""
 import csv
 import io
+import json
 import unicodedata
 from collections.abc import Iterable, Mapping, Sequence
 from typing import Any
@@ -57,6 +58,11 @@ def text_table(rows: Sequence[Sequence[str]], is_right: Sequence[bool]) -> str:
         cells = (" " * (width - columns_of(cell)) + cell if right else padded(cell, width) for cell, width, right in zip(row, widths, is_right, strict=True))
         return "  ".join(cells).rstrip()
     return "".join(f"{line(row)}\n" for row in rows)
+
+
+def rows_text(rows: Sequence[Mapping[str, Any]], columns: Sequence[str], form: str) -> str:
+    """Rows as `csv`, or else as `json`."""
+    return csv_text(rows, columns) if form == "csv" else json.dumps(rows, indent=2) + "\n"
 
 
 def csv_row(row: Mapping[str, Any]) -> dict[str, Any]:

@@ -9,8 +9,9 @@ import tempfile
 import threading
 import time
 from collections.abc import Callable, Mapping, Sequence
-from typing import Any
+from typing import Any, Self
 
+from temzaar.faults import reason_of
 from temzaar.printable import printable
 from temzaar.script import SessionFault
 from temzaar.sitefile import Site
@@ -36,11 +37,6 @@ class Process:
         with open(f"/proc/{self.pid}/status", encoding="utf-8") as it:
             return int(re.findall(r"VmRSS:\s+(\d+)", it.read())[0])
 
-    def page_faults(self) -> int:
-        """How often it has touched a page of memory that it did not have yet."""
-        with open(f"/proc/{self.pid}/stat", encoding="utf-8") as it:
-            return int(it.read().rpartition(")")[2].split()[7])
-
     def addresses(self) -> int:
         """The octets of its address space."""
         with open(f"/proc/{self.pid}/status", encoding="utf-8") as it:
@@ -49,14 +45,6 @@ class Process:
     def descriptors(self) -> int:
         """How many file descriptors it has open."""
         return len(os.listdir(f"/proc/{self.pid}/fd"))
-
-    def wakeups(self) -> int:
-        """How often the threads that it has now have begun to wait."""
-        count = 0
-        for thread in os.listdir(f"/proc/{self.pid}/task"):
-            with open(f"/proc/{self.pid}/task/{thread}/status", encoding="utf-8") as it:
-                count += int(re.findall(r"\nvoluntary_ctxt_switches:\s+(\d+)", it.read())[0])
-        return count
 
 
 # The number of the call by which a process says which signal it gets when its parent ends (prctl(2)).
@@ -74,7 +62,26 @@ def ends_with_parent() -> Callable[[], None]:
     return ask_system
 
 
-class Controller(Process):
+class Started(Process):
+    """A program that was started here. At the end of a `with` it is stopped."""
+    process: subprocess.Popen[Any]
+
+    def runs(self) -> bool:
+        """Whether it still runs."""
+        return self.process.poll() is None
+
+    def stop(self) -> None:
+        """Stops it, and waits for its end."""
+        raise NotImplementedError
+
+    def __enter__(self) -> Self:
+        return self
+
+    def __exit__(self, *_: object) -> None:
+        self.stop()
+
+
+class Controller(Started):
     """The controller, serving a site until it is stopped, or until this process ends. Ctrl-C in the terminal does not reach it by itself. `path` is its site file, and
     `notes` has the lines of its standard error, as they come."""
 
@@ -93,7 +100,7 @@ class Controller(Process):
             self.process = subprocess.Popen(command, stderr=subprocess.PIPE, text=True, errors="replace", env=environment, **more)
         except (OSError, ValueError) as fault:
             self.folder.cleanup()
-            raise SessionFault(f"cannot run {program}: {fault.strerror if isinstance(fault, OSError) else fault}") from fault
+            raise SessionFault(f"cannot run {program}: {reason_of(fault)}") from fault
         self.reader = threading.Thread(target=self._read_notes, daemon=True)
         self.reader.start()
         super().__init__(self.process.pid)
@@ -126,10 +133,6 @@ class Controller(Process):
         if not self.wait_for("console: listening", 30):
             raise SessionFault("the controller does not listen: " + "; ".join(self.notes))
 
-    def runs(self) -> bool:
-        """Whether it still runs."""
-        return self.process.poll() is None
-
     def stop(self) -> None:
         """Stops it, and waits for its end."""
         if self.runs():
@@ -144,14 +147,8 @@ class Controller(Process):
             self.process.stderr.close()
         self.folder.cleanup()
 
-    def __enter__(self) -> "Controller":
-        return self
 
-    def __exit__(self, *_: object) -> None:
-        self.stop()
-
-
-class Command(Process):
+class Command(Started):
     """A program that runs until it ends or is stopped, or until this process ends, with all that it starts. What it prints is kept."""
 
     def __init__(self, words: Sequence[str]) -> None:
@@ -161,12 +158,8 @@ class Command(Process):
             self.process = subprocess.Popen(words, stdin=subprocess.DEVNULL, stdout=self.output, stderr=self.output, process_group=0, preexec_fn=ends_with_parent())
         except (OSError, ValueError) as fault:
             self.output.close()
-            raise SessionFault(f"cannot run {words[0]}: {fault.strerror if isinstance(fault, OSError) else fault}") from fault
+            raise SessionFault(f"cannot run {words[0]}: {reason_of(fault)}") from fault
         super().__init__(self.process.pid)
-
-    def runs(self) -> bool:
-        """Whether it still runs."""
-        return self.process.poll() is None
 
     def end_in_words(self) -> str:
         """The status with which it has ended, and the last line that it printed."""
@@ -184,12 +177,6 @@ class Command(Process):
                 pass
         self.process.wait()
         self.output.close()
-
-    def __enter__(self) -> "Command":
-        return self
-
-    def __exit__(self, *_: object) -> None:
-        self.stop()
 
 
 def connect(address: str, port: int, seconds: float = 10.0) -> socket.socket:
@@ -221,7 +208,7 @@ def ask_program(text: str, program: str, *words: str) -> str:
     try:
         done = subprocess.run([program, *words], input=text.encode("utf-8"), capture_output=True, check=False, process_group=0)
     except (OSError, ValueError) as fault:
-        raise SessionFault(f"cannot run {program}: {fault.strerror if isinstance(fault, OSError) else fault}") from fault
+        raise SessionFault(f"cannot run {program}: {reason_of(fault)}") from fault
     if done.returncode:
         raise SessionFault(done.stderr.decode("utf-8", "replace").strip() or f"{program} ended with status {done.returncode}")
     return done.stdout.decode("utf-8", "replace")

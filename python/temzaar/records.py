@@ -15,7 +15,7 @@ from collections.abc import Iterator, Sequence
 from dataclasses import dataclass, field
 from typing import Any
 
-from temzaar.faults import MOST_OCTETS, ToolFault
+from temzaar.faults import MOST_OCTETS, ToolFault, reason_of
 from temzaar.moments import Span
 
 # The path of the file, if the systemd unit of the controller runs.
@@ -187,17 +187,14 @@ class Records:
             raise RecordsFault(f"{path}: its tables are of version {version}, which is newer than this program's {VERSION}")
 
 
-def try_shared_lock(descriptor: int) -> bool:
-    """Takes the lock of SQLite's readers, which ends with the descriptor, unless another program writes. Whether it has it."""
+def take_shared_lock(descriptor: int) -> None:
+    """Takes the lock of SQLite's readers, which ends with the descriptor. BlockingIOError: another program writes."""
     # a writer takes PENDING first, and then waits for the readers: none comes in before it
     fcntl.lockf(descriptor, fcntl.LOCK_SH | fcntl.LOCK_NB, 1, PENDING)
     try:
         fcntl.lockf(descriptor, fcntl.LOCK_SH | fcntl.LOCK_NB, SHARED_COUNT, SHARED)
-    except BlockingIOError:
-        return False
     finally:
         fcntl.lockf(descriptor, fcntl.LOCK_UN, 1, PENDING)
-    return True
 
 
 def wait_for_shared_lock(descriptor: int, path: str, seconds: float) -> None:
@@ -205,8 +202,8 @@ def wait_for_shared_lock(descriptor: int, path: str, seconds: float) -> None:
     until = time.monotonic() + seconds
     while True:
         with contextlib.suppress(BlockingIOError):
-            if try_shared_lock(descriptor):
-                return
+            take_shared_lock(descriptor)
+            return
         if time.monotonic() >= until:
             raise RecordsFault(f"{path}: locked: another program writes it; try again")
         time.sleep(TRY_SECONDS)
@@ -251,13 +248,13 @@ def copy_records(path: str, copy: str, seconds: float) -> None:
     try:
         descriptor = open_file(path)
     except (OSError, ValueError) as fault:
-        raise RecordsFault(f"{path}: {fault.strerror if isinstance(fault, OSError) else fault}") from fault
+        raise RecordsFault(f"{path}: {reason_of(fault)}") from fault
     try:
         wait_for_shared_lock(descriptor, path, seconds)
         copy_locked(descriptor, path, copy)
     except OSError as fault:
         name = fault.filename if isinstance(fault.filename, str) else path
-        raise RecordsFault(f"{name}: {fault.strerror or fault}") from fault
+        raise RecordsFault(f"{name}: {reason_of(fault)}") from fault
     finally:
         os.close(descriptor)
 

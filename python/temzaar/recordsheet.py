@@ -1,14 +1,12 @@
 """The calls of a file of records as a table, CSV and JSON, with who joined them; and which of them are asked for."""
 import bisect
-import json
 from collections.abc import Mapping
 from dataclasses import dataclass
-from enum import Enum
 from typing import Any
 
 from temzaar.moments import iso_text, short_text
-from temzaar.names import CALL_FIELDS, NAME_COLUMNS, NO_NAMES, Kind, Names, called_kind, named
-from temzaar.printable import csv_text, printable, text_table
+from temzaar.names import CALL_FIELDS, NAME_COLUMNS, NO_NAMES, Kind, Names, called_kind, kind_of_call
+from temzaar.printable import printable, rows_text, text_table
 from temzaar.recordgaps import Gap
 from temzaar.records import RecordedCall, RecordedEvent, Records, Where
 
@@ -24,11 +22,9 @@ MOST_GAPS = 20
 LATE_MS = 60_000
 
 
-class SheetFormat(Enum):
-    """How the calls are written."""
-    TABLE = "table"
-    CSV = "csv"
-    JSON = "json"
+# How calls, and a report, may be written: as a table for people, and for machines.
+TABLE_FORMAT = "table"
+FORMATS = (TABLE_FORMAT, "csv", "json")
 
 
 @dataclass(frozen=True)
@@ -80,7 +76,7 @@ def call_row(call: RecordedCall, joined: list[int] | None, names: Names | None) 
     """The columns of a call. A time that the calendar does not have is None, as are a name that nothing has, and what is not known."""
     waited = None if call.waited_ms is None else call.waited_ms / 1000
     row = {"number": call.number, "term": call.term, "began": iso_text(call.began_ms), "ended": iso_text(call.ended_ms), "seconds": call.duration_ms / 1000,
-           "carrier": call.carrier, "slot": call.slot, "kind": kind_of(call), "source": call.source, "target": call.target, "cause": call.cause,
+           "carrier": call.carrier, "slot": call.slot, "kind": kind_of_call(call.is_group), "source": call.source, "target": call.target, "cause": call.cause,
            "waited_seconds": waited, "joined": joined}
     if names is None:
         return row
@@ -88,18 +84,11 @@ def call_row(call: RecordedCall, joined: list[int] | None, names: Names | None) 
     return {**row, **names.of_call(called_kind(call.is_group), call.source, call.target, call.carrier), JOINED_NAMES: of_joined}
 
 
-def kind_of(call: RecordedCall) -> str:
-    """Who is called."""
-    return "talkgroup" if call.is_group else "individual"
-
-
 def table_cells(call: RecordedCall, joined: list[int], names: Names) -> list[str]:
     """The cells of a call in the table, by TABLE."""
-    slot = named(f"{call.carrier}/{call.slot}", names.name_of(Kind.CARRIER, call.carrier), NAME_COLUMNS)
-    source = names.label(Kind.RADIO, call.source, NAME_COLUMNS)
-    target = names.label(called_kind(call.is_group), call.target, NAME_COLUMNS)
+    parties = names.call_cells(call.carrier, call.slot, call.is_group, call.target, call.source)
     waited = "" if call.waited_ms is None else f"{call.waited_ms / 1000:.1f}"
-    return [str(call.number), short_text(call.began_ms), f"{call.duration_ms / 1000:.1f}", waited, slot, kind_of(call), source, target, printable(call.cause),
+    return [str(call.number), short_text(call.began_ms), f"{call.duration_ms / 1000:.1f}", waited, *parties, printable(call.cause),
             ", ".join(names.label(Kind.RADIO, it, NAME_COLUMNS) for it in joined)]
 
 
@@ -111,12 +100,10 @@ def lines_below(gaps: list[Gap], until_ms: int | None) -> list[str]:
     return [*more, *(it.in_words() for it in gaps[-MOST_GAPS:]), f"recorded up to {short_text(until_ms)}; the term that is running is not in it"]
 
 
-def write_sheet(calls: list[RecordedCall], joined: Joined, form: SheetFormat, names: Names | None = None) -> str:
-    """The calls in a format, with their names if there are any."""
-    if form is SheetFormat.TABLE:
+def write_sheet(calls: list[RecordedCall], joined: Joined, form: str, names: Names | None) -> str:
+    """The calls in one of the FORMATS, with their names if there are any."""
+    if form == TABLE_FORMAT:
         cells = [table_cells(it, joined.get(it.number, []), names or NO_NAMES) for it in calls]
         return text_table([[*TABLE], *cells], [it in RIGHT for it in TABLE])
     rows = [call_row(it, joined.get(it.number), names) for it in calls]
-    if form is SheetFormat.JSON:
-        return json.dumps(rows, indent=2) + "\n"
-    return csv_text(rows, COLUMNS if names is None else (*COLUMNS, *CALL_FIELDS, JOINED_NAMES))
+    return rows_text(rows, COLUMNS if names is None else (*COLUMNS, *CALL_FIELDS, JOINED_NAMES), form)

@@ -42,6 +42,11 @@ class Connection:
         """Whether it was welcomed."""
         return self.answer[:1] == bytes([FrameType.WELCOME])
 
+    def receive(self, octets: bytes) -> None:
+        """Octets came, which are handed to the controller now."""
+        now = time.monotonic()
+        self.received += [(now, frame) for frame in self.cutter.feed(octets)]
+
     def frames(self, *kinds: FrameType) -> list[Frame]:
         """The frames of some types, or all."""
         return [frame for _, frame in self.received if frame.kind in (kinds or FrameType)]
@@ -49,34 +54,6 @@ class Connection:
     def polls(self) -> list[float]:
         """When each POLL came."""
         return [time for time, frame in self.received if frame.kind == FrameType.POLL]
-
-
-class Connections:
-    """The connections of one carrier, oldest first. Those of other carriers are not kept."""
-
-    def __init__(self, carrier: int) -> None:
-        self.carrier, self.found = carrier, list[Connection]()
-
-    def open(self, carrier: int) -> None:
-        """A carrier connected."""
-        if carrier == self.carrier:
-            self.found.append(Connection(time.monotonic()))
-
-    def receive(self, carrier: int, octets: bytes) -> None:
-        """A carrier sent octets, which are handed to the controller now."""
-        if carrier == self.carrier:
-            now, last = time.monotonic(), self.found[-1]
-            last.received += [(now, frame) for frame in last.cutter.feed(octets)]
-
-    def answer(self, carrier: int, octets: bytes) -> None:
-        """The controller answered what came last."""
-        if carrier == self.carrier:
-            self.found[-1].answer = self.found[-1].answer or octets
-
-    def end(self, carrier: int) -> None:
-        """The carrier's connection has ended."""
-        if carrier == self.carrier:
-            self.found[-1].ended = True
 
 
 class Ended(Exception):
@@ -161,8 +138,8 @@ class Upstream:
 class Side:
     """A carrier's connection that is passed on."""
 
-    def __init__(self, kept: Connections, carrier: int, stream: socket.socket, port: int, manner: Manner) -> None:
-        self.kept, self.carrier, self.stream, self.manner = kept, carrier, stream, manner
+    def __init__(self, kept: Connection, stream: socket.socket, port: int, manner: Manner) -> None:
+        self.kept, self.stream, self.manner = kept, stream, manner
         # a side that does not read ends its own connection, and delays the others no longer
         stream.settimeout(PATIENCE)
         self.upstream, self.cutter, self.up = Upstream("127.0.0.1", port), Cutter(FROM_CARRIER), False
@@ -171,7 +148,6 @@ class Side:
         self.waiting: list[Frame | None] = []
         # when the oldest octet that is held came
         self.since: float | None = None
-        kept.open(carrier)
 
     def receive(self) -> None:
         """Takes the octets received. Ended: the other side closed the connection."""
@@ -197,7 +173,7 @@ class Side:
 
     def pass_on(self, octets: bytes, answers: Iterator[bytes]) -> None:
         """Hands octets to the controller, and each part of its answer back; `answers` reads the parts."""
-        self.kept.receive(self.carrier, octets)
+        self.kept.receive(octets)
         answer = b""
         try:
             self.upstream.stream.sendall(octets)
@@ -207,7 +183,7 @@ class Side:
         except OSError as fault:
             raise Ended(str(fault)) from fault
         finally:
-            self.kept.answer(self.carrier, answer)
+            self.kept.answer = self.kept.answer or answer
 
     def answers(self, frames: list[Frame | None]) -> Iterator[bytes]:
         """The frames that the controller sends for these, as they come."""
@@ -234,7 +210,7 @@ class Side:
     def finish(self) -> None:
         """The connection has ended: the controller gets the rest, and ends its own."""
         if self.held:
-            self.kept.receive(self.carrier, self.held)
+            self.kept.receive(self.held)
         try:
             if self.held:
                 self.upstream.stream.sendall(self.held)
@@ -242,7 +218,7 @@ class Side:
             self.wait_for_end()
         except (OSError, Ended):
             pass
-        self.kept.end(self.carrier)
+        self.kept.ended = True
 
     def close(self) -> None:
         """Closes both streams."""
@@ -253,9 +229,10 @@ class Side:
 class Relay:
     """The ports of the carriers, and the connections that are passed on. SessionFault: a port cannot be listened on."""
 
-    def __init__(self, site: Site, inner: Site, kept: Connections, make_manner: Callable[[], Manner] = frame_by_frame) -> None:
-        """It listens on the ports of a site and passes on to those of the controller's, `inner`. `make_manner` makes the manner of a connection."""
-        self.inner, self.kept, self.make_manner = inner, kept, make_manner
+    def __init__(self, site: Site, inner: Site, carrier: int, kept: list[Connection], make_manner: Callable[[], Manner]) -> None:
+        """It listens on the ports of a site and passes on to those of the controller's, `inner`. The connections of a carrier are added to `kept`, and `make_manner`
+        makes the manner of a connection."""
+        self.inner, self.carrier, self.kept, self.make_manner = inner, carrier, kept, make_manner
         self.selector = selectors.DefaultSelector()
         self.listeners: dict[int, socket.socket] = {}
         self.sides: dict[int, Side] = {}
@@ -284,13 +261,16 @@ class Relay:
             # it was closed again before it was taken
             return
         stream.setsockopt(socket.IPPROTO_TCP, socket.TCP_NODELAY, 1)
+        kept = Connection(time.monotonic())
         try:
-            side = Side(self.kept, carrier, stream, port, self.make_manner())
+            side = Side(kept, stream, port, self.make_manner())
         except OSError as fault:
             stream.close()
             raise SessionFault(f"the controller takes no connection on port {port}: {fault.strerror or fault}") from fault
         self.selector.unregister(listener)
         self.sides[carrier] = side
+        if carrier == self.carrier:
+            self.kept.append(kept)
         self.selector.register(stream, selectors.EVENT_READ, ("receive", carrier))
         self.selector.register(side.upstream.stream, selectors.EVENT_READ, ("read", carrier))
 

@@ -3,7 +3,6 @@
 `temzaar.reportpage` makes a page of them. Cells are numbers and texts; a number that is not known
 is None, and is shown as a dash.
 """
-import json
 import math
 import textwrap
 from collections.abc import Iterator, Sequence
@@ -13,8 +12,8 @@ from typing import NamedTuple
 from temzaar.erlang import Demand, Service
 from temzaar.moments import Span, iso_text, local_time, short_text
 from temzaar.names import NO_NAMES, Kind, Names
-from temzaar.printable import csv_text, printable, text_table
-from temzaar.recordsheet import SheetFormat
+from temzaar.printable import printable, rows_text, text_table
+from temzaar.recordsheet import TABLE_FORMAT
 from temzaar.sitefigures import seconds_in_words
 from temzaar.traffic import HOUR_MS, RECONNECT_MS, Hour, SlotKey, Traffic, Use, busiest
 
@@ -425,11 +424,8 @@ def long_rows(report: Report) -> Iterator[dict[str, Cell]]:
                        "value": value, "unit": column.unit}
 
 
-def write_report(report: Report, form: SheetFormat) -> str:
-    """The report in a format."""
-    if form is SheetFormat.TABLE:
+def write_report(report: Report, form: str) -> str:
+    """The report in one of the FORMATS."""
+    if form == TABLE_FORMAT:
         return text_report(report)
-    rows = [*long_rows(report)]
-    if form is SheetFormat.JSON:
-        return json.dumps(rows, indent=2) + "\n"
-    return csv_text(rows, ("section", "row", "key", "measure", "value", "unit"))
+    return rows_text([*long_rows(report)], ("section", "row", "key", "measure", "value", "unit"), form)

@@ -134,14 +134,6 @@ class Session:
         self.events: list[Event] = []
         self.index, self.tick = -1, 0
 
-    def is_open(self, carrier: int) -> bool:
-        """Whether a carrier's connection is open."""
-        return carrier in self.cutters
-
-    def octets_left(self, carrier: int) -> int:
-        """How many of a carrier's octets answer none of the inputs so far."""
-        return sum(len(it.octets()) for it in self.frames[carrier])
-
     def _note(self, what: str, carrier: int = -1, slot: int = -1, octets: bytes = b"", text: str = "") -> None:
         self.events.append(Event(self.index, self.tick, what, carrier, slot, octets, text))
 

@@ -49,6 +49,22 @@ NEED_ACKNOWLEDGEMENT = frozenset({
 # The kinds of `events` that are about a carrier, and those of commands: each with its line.
 CARRIERS = {"was_lost": EventKind.CARRIER_LOST, "came_up": EventKind.CARRIER_BACK}
 COMMANDS = {"drop_command": "drop {radio}", "end_command": "end {carrier} {slot}", "move_command": "move {channel}", "stay_command": "stay"}
+# The texts of events. Others have their detail.
+TEXTS = {
+    EventKind.CONTROL_LOST: "no control channel: carrier {0.carrier} was lost, and the site was off the air",
+    EventKind.CONTROL_BACK: "the control channel is back: carrier {0.carrier} came up",
+    EventKind.CARRIER_LOST: "carrier {0.carrier} was lost",
+    EventKind.CARRIER_BACK: "carrier {0.carrier} came up",
+    EventKind.NO_POLLS: "a burst waited: carrier {0.carrier}, or the control carrier, did not poll",
+    EventKind.CONTROLLER_AWAY: "the controller was away: {0.detail}",
+    EventKind.CONTROLLER_BACK: "the controller answered again",
+    EventKind.CONTROLLER_STARTED: "the controller was started{before}",
+    EventKind.UNRECORDED: "terms were not written{after}",
+    EventKind.PAST_HUB: "{0.line}, past the hub{outcome}",
+    EventKind.COMMAND: "{0.line} by {0.user}{outcome}",
+    EventKind.REFUSED: "radio {0.radio} was refused",
+    EventKind.HUB_STARTED: "the hub was started",
+}
 # How kinds are shown of the carrier that has the control channel.
 OF_CONTROL = {EventKind.CARRIER_LOST: EventKind.CONTROL_LOST, EventKind.CARRIER_BACK: EventKind.CONTROL_BACK}
 # The reply of the console to a command that was done.
@@ -91,43 +107,13 @@ class SiteEvent:
 
     def _text(self, kind: EventKind) -> str:
         """The text without what follows of a refusal."""
-        match kind:
-            case EventKind.CONTROL_LOST:
-                return f"no control channel: carrier {self.carrier} was lost, and the site was off the air"
-            case EventKind.CONTROL_BACK:
-                return f"the control channel is back: carrier {self.carrier} came up"
-            case EventKind.CARRIER_LOST:
-                return f"carrier {self.carrier} was lost"
-            case EventKind.CARRIER_BACK:
-                return f"carrier {self.carrier} came up"
-            case EventKind.NO_POLLS:
-                return "a carrier that was up did not poll" if self.carrier is None else f"a burst waited: carrier {self.carrier}, or the control carrier, did not poll"
-            case EventKind.CONTROLLER_AWAY:
-                return f"the controller was away: {self.detail}"
-            case EventKind.CONTROLLER_BACK:
-                return "the controller answered again"
-            case EventKind.CONTROLLER_STARTED:
-                return f"the controller was started{self._unrecorded('before')}"
-            case EventKind.UNRECORDED:
-                return f"terms were not written{self._unrecorded('after this')}"
-            case EventKind.PAST_HUB:
-                return f"{self.line}, past the hub{self._outcome()}"
-            case EventKind.COMMAND:
-                return f"{self.line} by {self.user}{self._outcome()}"
-            case EventKind.REFUSED:
-                return f"radio {self.radio} was refused"
-            case EventKind.HUB_STARTED:
-                return "the hub was started"
-            case _:
-                return str(self.detail)
-
-    def _unrecorded(self, when: str) -> str:
-        """How long there are no records, if there are none."""
-        return f"; no records of the {self.unrecorded_ms / 1000:.1f} s {when}" if self.unrecorded_ms else ""
-
-    def _outcome(self) -> str:
-        """The reply to a command, and what is to be said of it."""
-        return "".join(f": {it}" for it in (self.reply, self.detail) if it)
+        if kind is EventKind.NO_POLLS and self.carrier is None:
+            return "a carrier that was up did not poll"
+        gap = f"; no records of the {self.unrecorded_ms / 1000:.1f} s " if self.unrecorded_ms else ""
+        before, after = (gap and gap + when for when in ("before", "after this"))
+        # the reply to a command, and what is to be said of it
+        outcome = "".join(f": {it}" for it in (self.reply, self.detail) if it)
+        return TEXTS.get(kind, "{0.detail}").format(self, before=before, after=after, outcome=outcome)
 
     def _refusal(self, names: Names) -> str:
         """Why a request was refused, what it was about, and how often. An address may be that of a radio or of a talkgroup."""

@@ -4,11 +4,12 @@ from bisect import bisect_right
 from collections.abc import Iterable, Mapping
 from dataclasses import dataclass
 from itertools import accumulate
-from typing import Any, NamedTuple
+from typing import Any
 
 from temzaar.faults import ToolFault, read_text
 from temzaar.ports import free_ports
-from temzaar.sitekeys import SITE_KEYS, WAIT_MS
+from temzaar.sitekeys import CARRIER_KEYS, SITE_KEYS, WAIT_MS, Content, SiteKey
+from temzaar.sitetext import is_number
 
 Row = dict[str, Any]
 # The most octets of a site file.
@@ -23,66 +24,53 @@ class SiteFault(ToolFault):
     """A site file that a tool cannot use. The text names the file and the key, in the words of the controller."""
 
 
-class Range(NamedTuple):
-    """The least and the greatest value of a key, and whether the file has to have it."""
-    least: int
-    most: int
-    required: bool = True
+# The keys that tools read, the carriers before the number of one of them.
+NEEDED = ("regi", "tsi", "leave_bit", "hang", "maximum", "grant_copies", "clear_copies", "backoff_low", "backoff_high", "tick_ms", "silence", "link_version",
+          "console_port", "address", "radios", "groups", "carrier", "control")
 
 
-# The keys that tools read and that are whole numbers; those of a carrier; how many entries an array has, and the range of each.
-NUMBERS = {
-    "regi": Range(16776416, 16777215), "tsi": Range(16776416, 16777215), "leave_bit": Range(0, 6, False), "hang": Range(1, 65535), "maximum": Range(1, 65535),
-    "grant_copies": Range(1, 4), "clear_copies": Range(1, 4), "backoff_low": Range(1, 15), "backoff_high": Range(1, 15), "tick_ms": Range(10, 1000),
-    "silence": Range(1, 65535), "link_version": Range(1, 2, False), "console_port": Range(1, 65535), "control": Range(0, 15),
-}
-OF_CARRIER = {"number": Range(0, 15), "lpcn": Range(1, 4094), "port": Range(1, 65535)}
-COUNTS = {"address": Range(4, 4, False), "radios": Range(1, 16), "groups": Range(0, 64), "carrier": Range(1, 16)}
-ADDRESS_OCTET, IDENTITY = Range(0, 255), Range(1, 16776415)
-
-
-def fault_of_number(key: str, value: object, bounds: Range) -> str:
+def fault_of_number(key: SiteKey, value: object) -> str:
     """What is wrong with a value that is to be a whole number; empty if nothing is."""
-    if not isinstance(value, int) or isinstance(value, bool):
-        return f"wrong type {key}"
-    return "" if bounds.least <= value <= bounds.most else f"out of range {key}"
+    if not is_number(value):
+        return f"wrong type {key.name}"
+    return "" if key.least <= value <= key.most else f"out of range {key.name}"
 
 
 def fault_of_row(row: object) -> str:
     """What is wrong with a table of a carrier; empty if nothing is."""
     if not isinstance(row, dict):
         return "wrong type carrier"
-    faults = (f"missing {key}" if key not in row else fault_of_number(key, row[key], bounds) for key, bounds in OF_CARRIER.items())
-    return next((it for it in faults if it), "")
+    faults = (fault_of_number(key, row[name]) if name in row else f"missing {name}" for name, key in CARRIER_KEYS.items())
+    return next(filter(None, faults), "")
 
 
-def fault_of_array(key: str, value: object) -> str:
+def fault_of_array(key: SiteKey, value: object) -> str:
     """What is wrong with a value that is to be an array; empty if nothing is."""
     if not isinstance(value, list):
-        return f"wrong type {key}"
-    if not COUNTS[key].least <= len(value) <= COUNTS[key].most:
-        return f"{'wrong type' if key == 'address' else 'out of range'} {key}"
-    if key == "carrier":
-        return next((fault for row in value if (fault := fault_of_row(row))), "")
-    if key == "radios" and not all(isinstance(it, list) and len(it) == 2 for it in value):
-        return "wrong type radios"
-    numbers = [number for pair in value for number in pair] if key == "radios" else value
-    bounds = ADDRESS_OCTET if key == "address" else IDENTITY
-    return next((fault for number in numbers if (fault := fault_of_number(key, number, bounds))), "")
+        return f"wrong type {key.name}"
+    if not key.fewest <= len(value) <= key.many:
+        return f"{'wrong type' if key.name == 'address' else 'out of range'} {key.name}"
+    if key.content is Content.TABLES:
+        return next(filter(None, map(fault_of_row, value)), "")
+    if key.content is Content.PAIRS:
+        if not all(isinstance(it, list) and len(it) == 2 for it in value):
+            return f"wrong type {key.name}"
+        value = [number for pair in value for number in pair]
+    return next(filter(None, (fault_of_number(key, number) for number in value)), "")
 
 
-def fault_of_key(key: str, plan: dict[str, Any]) -> str:
+def fault_of_key(key: SiteKey, plan: dict[str, Any]) -> str:
     """What is wrong with a key of a site file; empty if nothing is."""
-    bounds = NUMBERS.get(key) or COUNTS[key]
-    if key not in plan:
-        return f"missing {key}" if bounds.required else ""
-    fault = fault_of_number(key, plan[key], bounds) if key in NUMBERS else fault_of_array(key, plan[key])
-    if not fault and key == "control" and isinstance(plan.get("carrier"), list) and plan[key] not in [row.get("number") for row in plan["carrier"]]:
+    if key.name not in plan:
+        return f"missing {key.name}" if key.required else ""
+    value = plan[key.name]
+    fault = fault_of_number(key, value) if key.content is Content.NUMBER else fault_of_array(key, value)
+    if not fault and key.name == "control" and isinstance(plan.get("carrier"), list) and value not in [row.get("number") for row in plan["carrier"]]:
         return "out of range control"
     return fault
 
 
-def read_plan(path: str, keys: Iterable[str] = (*NUMBERS, *COUNTS)) -> dict[str, Any]:
+def read_plan(path: str, keys: Iterable[str] = NEEDED) -> dict[str, Any]:
     """The values of a site file. SiteFault: it cannot be read, or one of these keys is not as the tools need it."""
     try:
         plan = tomllib.loads(read_text(path, MOST_OCTETS))
@@ -90,9 +78,8 @@ def read_plan(path: str, keys: Iterable[str] = (*NUMBERS, *COUNTS)) -> dict[str,
         raise SiteFault(f"site file {fault}") from fault
     except (ValueError, RecursionError) as fault:
         raise SiteFault(f"site file {path}: not TOML: {fault}") from fault
-    # the carriers come before the number of one of them
-    for key in sorted(keys, key=lambda it: it == "control"):
-        if fault := fault_of_key(key, plan):
+    for key in keys:
+        if fault := fault_of_key(SITE_KEYS[key], plan):
             raise SiteFault(f"site file {path}: {fault}")
     return plan
 
@@ -168,11 +155,6 @@ class Site:
         """The greatest version of the link that the site serves."""
         return self.plan.get("link_version", 1)
 
-    @property
-    def tick_seconds(self) -> float:
-        """How long a tick lasts."""
-        return self.plan["tick_ms"] / 1000
-
     def ports(self) -> list[int]:
         """The ports of the console and of the carriers."""
         return [self.console_port, *(row["port"] for row in self.rows)]
@@ -196,7 +178,7 @@ class Site:
         """The site file; keys that no site file has, of another type, are left out."""
         lines = [f"{key} = {value}" for key, value in self.plan.items() if key != "carrier" and isinstance(value, int | list) and not isinstance(value, bool)]
         for row in self.rows:
-            lines += ["[[carrier]]"] + [f"{key} = {row[key]}" for key in OF_CARRIER]
+            lines += ["[[carrier]]"] + [f"{key} = {row[key]}" for key in CARRIER_KEYS]
         return "\n".join(lines) + "\n"
 
     def radios(self, count: int) -> list[int]:

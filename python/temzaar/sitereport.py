@@ -7,6 +7,7 @@ from dataclasses import dataclass, field
 from typing import Any
 
 from temzaar.namerisks import NamesCheck
+from temzaar.printable import text_table
 from temzaar.sitefigures import Line
 from temzaar.sitekeys import CARRIER_KEYS, SITE_KEYS
 from temzaar.siterisks import MOST_RISKS, Risk
@@ -35,11 +36,6 @@ class Style(enum.Enum):
 REFUSAL = "dmr_trunk: site file: "
 
 
-def controller_text(fault: str) -> str:
-    """The controller's line for a fault."""
-    return f"{REFUSAL}{fault}"
-
-
 @dataclass(frozen=True)
 class Verdict:
     """What the controller said of a site file: its own text, or none if it accepts it."""
@@ -49,7 +45,7 @@ class Verdict:
     @property
     def words(self) -> str:
         """What it said, in words."""
-        return f"{self.program} refuses it: {controller_text(self.fault)}" if self.fault else f"{self.program} accepts it"
+        return f"{self.program} refuses it: {REFUSAL}{self.fault}" if self.fault else f"{self.program} accepts it"
 
 
 @dataclass
@@ -136,7 +132,8 @@ class TextReport:
         for risk in self.report.risks:
             yield from self.risk_lines(risk)
         if self.report.lines:
-            yield from self.table_lines()
+            rows = [(it.key, f"{it.value}{' (default)' if it.is_default else ''}", it.amounts, it.what) for it in self.report.lines]
+            yield from text_table([("key", "value", "that is", "what it is"), *rows], [False] * 4).splitlines()
         if self.report.names:
             yield from name_lines(self.report.names, self.has_colours)
         yield self.summary()
@@ -166,14 +163,6 @@ class TextReport:
         if line:
             text = self.report.site.line(line)
             yield f"    {printable(text[:SHOWN])}{CUT if len(text) > SHOWN else ''}".rstrip()
-
-    def table_lines(self) -> Iterator[str]:
-        """The values as a table."""
-        rows = [("key", "value", "that is", "what it is")]
-        rows += [(it.key, f"{it.value}{' (default)' if it.is_default else ''}", it.amounts, it.what) for it in self.report.lines]
-        widths = [max(len(row[column]) for row in rows) for column in range(3)]
-        for row in rows:
-            yield "  ".join([*(cell.ljust(width) for cell, width in zip(row, widths)), row[3]]).rstrip()
 
     def summary(self) -> str:
         """The verdict, and how many warnings there are."""

@@ -6,7 +6,7 @@ import re
 import tomllib
 from collections.abc import Iterator, Mapping
 from dataclasses import dataclass
-from typing import Any
+from typing import Any, TypeGuard
 
 from temzaar.sitekeys import CARRIER_KEYS, SITE_KEYS
 
@@ -16,7 +16,7 @@ HEADER, NAME = re.compile(r"\[+\s*([^\]]+?)\s*\]+"), re.compile(r"\s*([\w-]+)\s*
 PARSER_LINE = re.compile(r" \(at (?:line (\d+), column \d+|end of document)\)$")
 
 
-def is_number(value: Any) -> bool:
+def is_number(value: object) -> TypeGuard[int]:
     """Whether a value is a whole number. Python takes truth values for some."""
     return isinstance(value, int) and not isinstance(value, bool)
 

@@ -11,10 +11,11 @@ import signal
 import socket
 import struct
 import time
+from argparse import Namespace
 from collections import Counter, deque
 
 from temzaar.frames import POLL, TO_CARRIER, Cutter, Frame, FrameType, Link, hello, rx
-from temzaar.player import PERIOD, Backoff, Options, Play
+from temzaar.player import PERIOD, Backoff, Play, Sign
 from temzaar.process import Controller
 from temzaar.sitefile import Row, Site
 from temzaar.sitekeys import WAIT_MS
@@ -242,7 +243,8 @@ class TroubledCarrier:
         elif frame.kind == FrameType.WELCOME and not self.welcomed and frame.body[0] == self.link.version:
             self.welcomed = True
             # the calls of a carrier that was lost have ended
-            self.play.slots.lose(self.number, self.down_since, received)
+            for slot in (0, 1):
+                self.play.signs[self.number, slot].append(Sign(False, (), self.down_since, received))
             self.sent, self.queued_since = received, self.hello_at
         elif frame.kind == FrameType.REFUSED and self.must_end == "refused":
             self.counts["refusals read"] += 1
@@ -359,7 +361,7 @@ class TroubledOperator:
 class TroubledPlay(Play):
     """A play in which things go wrong, one at a time and together, and that ends quietly."""
 
-    def __init__(self, site: Site, options: Options, controller: Controller) -> None:
+    def __init__(self, site: Site, options: Namespace, controller: Controller) -> None:
         super().__init__(site, options)
         self.controller, self.selector, self.random = controller, selectors.DefaultSelector(), self.radios.random
         self.stopped_until: float | None = None

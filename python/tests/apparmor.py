@@ -13,14 +13,20 @@ from typing import NamedTuple
 
 # Debian's folder of what profiles include
 INCLUDED = pathlib.Path("/etc/apparmor.d")
-RULE = re.compile(
-    r'(?P<denied>deny )?(?:audit )?(?:owner )?"?(?P<path>[/@][^\s"]*)"?\s+(?P<modes>[a-zA-Z]+),'
-)
+RULE = re.compile(r'(?P<denied>deny )?(?:audit )?(?:owner )?"?(?P<path>[/@][^\s"]*)"?\s+'
+                  r"(?P<modes>[a-zA-Z]+),")
 VARIABLE = re.compile(r"(@\{\w+\})\s*\+?=\s*(.*)")
 INCLUDE = re.compile(r"include (?:if exists )?<([^>]*)>")
 # the system calls that strace has to print
 CALLS = "%file,mmap,fcntl,flock,fchmod,fchown,ftruncate,bind,connect,sendto,sendmsg"
 NAME, DESCRIPTOR = r'"([^"]*)"', r"\d+<([^>]*)>"
+# The modes for calls on descriptors, on sockets with a path, and on paths: by the name of the call,
+# or by how it begins. An `execve` needs its mode for the first path alone.
+OF_DESCRIPTORS = {"fcntl": "k", "flock": "k", "fchmod": "w", "fchown": "w", "ftruncate": "w"}
+OF_SOCKETS = {"connect": "rw", "bind": "w", "sendto": "w", "sendmsg": "w"}
+OF_PATHS = {"rename": "rw", "link": "l", "execve": "x", **dict.fromkeys((
+    "unlink", "chmod", "fchmodat", "chown", "lchown", "fchownat", "truncate", "mknod", "symlink",
+    "utime"), "w")}
 
 
 class Need(NamedTuple):
@@ -62,9 +68,8 @@ def pattern_of(path: str) -> str:
             pattern += path[at : closed + 1]
             stars = closed + 1 - at
         else:
-            pattern += {"{": "(?:", "}": ")", ",": "|", "?": "[^/]"}.get(
-                path[at], re.escape(path[at])
-            )
+            meaning = {"{": "(?:", "}": ")", ",": "|", "?": "[^/]"}
+            pattern += meaning.get(path[at], re.escape(path[at]))
         at += stars or 1
     return pattern
 
@@ -79,10 +84,9 @@ class Profile:
             if found := VARIABLE.match(line):
                 self.variables.setdefault(found[1], []).extend(found[2].split())
             elif found := RULE.match(line):
-                self.rules.extend(
-                    (re.compile(pattern_of(path)), found["modes"], bool(found["denied"]))
-                    for path in self._filled(found["path"])
-                )
+                for path in self._filled(found["path"]):
+                    rule = re.compile(pattern_of(path)), found["modes"], bool(found["denied"])
+                    self.rules.append(rule)
 
     def _filled(self, path: str) -> list[str]:
         """A path for each value of its variables."""
@@ -118,56 +122,33 @@ def modes_of_open(flags: str) -> str:
     return "rw" if "O_RDWR" in flags else "w" if "O_WRONLY" in flags else "r"
 
 
+def needs_of_open(words: str, result: str) -> list[Need]:
+    """What a call needs that opened a file or a folder."""
+    opened = re.match(r"\d+<(.*)>$", result)
+    if not opened or "O_PATH" in words:
+        return []
+    is_folder = "O_DIRECTORY" in words or os.path.isdir(opened[1])
+    return [Need(opened[1] + "/" * is_folder, modes_of_open(words))]
+
+
 def needs_of_call(name: str, words: str, result: str) -> list[Need]:
     """What a system call needs that was done. AppArmor lets every program see that a file is there,
     and its state."""
     if name in ("open", "openat", "creat"):
-        opened = re.match(r"\d+<(.*)>$", result)
-        is_folder = opened and ("O_DIRECTORY" in words or os.path.isdir(opened[1]))
-        return (
-            [Need(opened[1] + "/" * bool(is_folder), modes_of_open(words))]
-            if opened and "O_PATH" not in words
-            else []
-        )
+        return needs_of_open(words, result)
     if name == "mmap":
         mapped = re.search(DESCRIPTOR, words)
         return [Need(mapped[1], "m")] if mapped and "PROT_EXEC" in words else []
-    if name in ("fcntl", "flock"):
-        return [
-            Need(it, "k")
-            for it in re.findall(DESCRIPTOR, words)
-            if name == "flock" or "SETLK" in words
-        ]
-    if name in ("fchmod", "fchown", "ftruncate"):
-        return [Need(it, "w") for it in re.findall(DESCRIPTOR, words)]
-    if name in ("bind", "connect", "sendto", "sendmsg"):
-        return [
-            Need(it, "rw" if name == "connect" else "w")
-            for it in re.findall(r'sun_path="([^"]*)"', words)
-        ]
+    if name in OF_DESCRIPTORS:
+        is_other = name == "fcntl" and "SETLK" not in words
+        return [Need(it, OF_DESCRIPTORS[name]) for it in re.findall(DESCRIPTOR, words) if not is_other]
+    if name in OF_SOCKETS:
+        return [Need(it, OF_SOCKETS[name]) for it in re.findall(r'sun_path="([^"]*)"', words)]
     if name.startswith(("mkdir", "rmdir")) or "AT_REMOVEDIR" in words:
         return [Need(it.rstrip("/") + "/", "w") for it in named(words)]
-    if name.startswith(
-        (
-            "unlink",
-            "rename",
-            "chmod",
-            "fchmodat",
-            "chown",
-            "lchown",
-            "fchownat",
-            "truncate",
-            "mknod",
-            "symlink",
-            "utime",
-        )
-    ):
-        return [Need(it, "rw" if name.startswith("rename") else "w") for it in named(words)]
-    return (
-        [Need(it, "l") for it in named(words)]
-        if name.startswith("link")
-        else [Need(it, "x") for it in named(words)[:1] if name.startswith("execve")]
-    )
+    modes = next((it for begins, it in OF_PATHS.items() if name.startswith(begins)), "")
+    paths = named(words)[:1 if modes == "x" else None]
+    return [Need(it, modes) for it in paths if modes]
 
 
 def named(words: str) -> list[str]:

@@ -10,7 +10,7 @@ import sqlite3
 import subprocess
 import sys
 import time
-from collections.abc import Iterator
+from collections.abc import Iterator, Sequence
 from unittest import mock
 
 # 2026-11-27 12:00:00 UTC, in milliseconds since 1970: 20,784 days and a half. 1970 to 2026 are 56 years with 14 leap days, and 2026-11-27 is the 331st day.
@@ -97,6 +97,19 @@ def zone(name: str) -> Iterator[None]:
     time.tzset()
 
 
+@contextlib.contextmanager
+def opened(path: pathlib.Path | str) -> Iterator[sqlite3.Connection]:
+    """A connection to a database. Its changes are kept at the end."""
+    with contextlib.closing(sqlite3.connect(path)) as conn, conn:
+        yield conn
+
+
+def change(path: pathlib.Path | str, statement: str, values: Sequence[object] = ()) -> None:
+    """Changes a database by a statement."""
+    with opened(path) as conn:
+        conn.execute(statement, values)
+
+
 def insert(conn: sqlite3.Connection, table: str, rows: tuple[tuple[object, ...], ...]) -> None:
     """Inserts rows into a table. Columns that they do not have are the last ones, which are NULL."""
     if rows:
@@ -107,12 +120,11 @@ def insert(conn: sqlite3.Connection, table: str, rows: tuple[tuple[object, ...],
 def make_records(path: pathlib.Path, terms: int = len(TERMS), version: int = 1) -> pathlib.Path:
     """Makes a file of records with the first `terms` terms, with a write-ahead log, as the controller does, in place of another one. Its path."""
     path.unlink(missing_ok=True)
-    with contextlib.closing(sqlite3.connect(path)) as conn:
+    with opened(path) as conn:
         conn.execute("PRAGMA journal_mode = WAL")
         conn.executescript(TABLES)
         conn.execute("INSERT INTO schema_version VALUES (1)")
         insert(conn, "registrations", REGISTRATIONS)
-        conn.commit()
     if version == 2:
         carry_over(path)
     for number in range(1, terms + 1):
@@ -122,13 +134,13 @@ def make_records(path: pathlib.Path, terms: int = len(TERMS), version: int = 1) 
 
 def carry_over(path: pathlib.Path) -> None:
     """Makes the tables of a file those of the second version. What its rows do not say is NULL."""
-    with contextlib.closing(sqlite3.connect(path)) as conn:
+    with opened(path) as conn:
         conn.executescript(SECOND)
 
 
 def add_term(path: pathlib.Path, number: int) -> None:
     """Adds the rows of a term, as the version of the tables has them."""
-    with contextlib.closing(sqlite3.connect(path)) as conn, conn:
+    with opened(path) as conn:
         insert(conn, "terms", (TERMS[number - 1],))
         insert(conn, "calls", tuple(it for it in CALLS if it[1] == number))
         insert(conn, "events", tuple(it for it in EVENTS if it[1] == number))

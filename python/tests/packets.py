@@ -2,14 +2,14 @@
 import struct
 from dataclasses import dataclass
 
-FIN, SYN, RST, PSH, ACK = 1, 2, 4, 8, 16
+FIN, SYN, PSH, ACK = 1, 2, 8, 16
 CLIENT_SEQUENCE, SERVER_SEQUENCE = 0xFFFFFFF0, 7000
 BEGAN = 1_790_000_000.25
 
 
-def ipv4(client: int, to_server: bool, payload: bytes) -> bytes:
+def ipv4(to_server: bool, payload: bytes) -> bytes:
     """An IPv4 packet with TCP, from the client's address to the server's, or back. Its header has an option."""
-    ends = bytes([10, 0, 0, client]), bytes([10, 0, 0, 1])
+    ends = bytes([10, 0, 0, 2]), bytes([10, 0, 0, 1])
     source, target = ends if to_server else ends[::-1]
     return struct.pack(">BBHHHBBH", 0x46, 0, 24 + len(payload), 0, 0x4000, 64, 6, 0) + source + target + bytes(4) + payload
 
@@ -28,11 +28,10 @@ class Sent:
 
 @dataclass
 class Talk:
-    """A TCP connection that is played: packets are added to `to`, which may be shared."""
+    """A TCP connection that is played: packets are added to `to`."""
     to: list[Sent]
     port: int
-    client: int = 2
-    source: int = 40000
+    source: int
     sent: int = 0
     answered: int = 0
 
@@ -41,7 +40,7 @@ class Talk:
         ports = (self.source, self.port) if to_server else (self.port, self.source)
         acknowledged = other + 1 + (self.answered if to_server else self.sent) if flags & ACK else 0
         segment = tcp(*ports, begins + place, acknowledged, flags, payload)
-        self.to.append(Sent(time, ipv4(self.client, to_server, segment)))
+        self.to.append(Sent(time, ipv4(to_server, segment)))
 
     def open(self, time: float) -> None:
         """The three packets that open it."""
@@ -51,23 +50,18 @@ class Talk:
 
     def send(self, time: float, octets: bytes) -> None:
         """The client sends."""
-        self.send_at(time, self.sent, octets)
+        self._add(time, True, 1 + self.sent, PSH | ACK, octets)
         self.sent += len(octets)
-
-    def send_at(self, time: float, place: int, octets: bytes) -> None:
-        """The client sends octets at a place of its stream, again or early; the next place stays."""
-        self._add(time, True, 1 + place, PSH | ACK, octets)
 
     def answer(self, time: float, octets: bytes) -> None:
         """The server sends."""
         self._add(time, False, 1 + self.answered, PSH | ACK, octets)
         self.answered += len(octets)
 
-    def close(self, time: float, reset: bool = False) -> None:
+    def close(self, time: float) -> None:
         """The client ends it, and then the server."""
-        self._add(time, True, 1 + self.sent, RST if reset else FIN | ACK, b"")
-        if not reset:
-            self._add(time, False, 1 + self.answered, FIN | ACK, b"")
+        self._add(time, True, 1 + self.sent, FIN | ACK, b"")
+        self._add(time, False, 1 + self.answered, FIN | ACK, b"")
 
 
 def write_pcap(sent: list[Sent]) -> bytes:

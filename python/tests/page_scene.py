@@ -15,7 +15,7 @@ from temzaar.ports import free_ports
 from temzaar.process import Controller, ends_with_parent
 from temzaar.sitefile import Site
 from tests.support import tool_words
-from tests.test_served import Carrier
+from tests.served_kit import Carrier
 
 # Seconds between two polls of a carrier, as on the air.
 PERIOD = 0.060

@@ -1,13 +1,10 @@
 """A stand-in for the Rattle kit's `rt`, and a small checkout with the commands of ci/ that use it."""
 import os
-import pathlib
 import shutil
 import subprocess
 import sys
-import tempfile
-import unittest
 
-from tests.support import TOP
+from tests.support import TOP, FolderCase
 
 # what the help of each kind of build says of `rt ci`
 TAKES_WORDS = """  rt ci                   the merge gate, at the top of the repository
@@ -48,14 +45,12 @@ elif words[:1] == ["must-fail"]:
 """
 
 
-class Kits(unittest.TestCase):
+class Kits(FolderCase):
     """A test with a checkout of its own, and a folder on PATH in which `rt` can be put."""
 
     def setUp(self) -> None:
-        room = tempfile.TemporaryDirectory()
-        self.addCleanup(room.cleanup)
-        self.checkout = pathlib.Path(room.name) / "checkout"
-        self.commands = pathlib.Path(room.name) / "commands"
+        super().setUp()
+        self.checkout, self.commands = self.folder / "checkout", self.folder / "commands"
         self.commands.mkdir()
         (self.checkout / "ci").mkdir(parents=True)
         for name in ("gate", "wrong-bodies", "check-toolchain", "toolchain.py", "crates.py", "built.py", "progress.py",
@@ -67,7 +62,7 @@ class Kits(unittest.TestCase):
             ("crates.txt", "dmr_bits:\ndmr_calls: dmr_bits\ndmr_trunk: dmr_calls\n"),
             ("HANDLES", "Handles allowed: none.\n"),
         ):
-            (self.checkout / name).write_text(text, encoding="utf-8")
+            self.write(f"checkout/{name}", text)
 
     def put_kit(self, takes_words: bool, version: str = "kit-2 logic c0ffee", said: str = "2 passed, 0 failed", status: int = 0,
                 burns: tuple[str, ...] = (), edits: bool = True) -> None:
@@ -77,8 +72,7 @@ class Kits(unittest.TestCase):
         text = HELP.format(ci=TAKES_WORDS if takes_words else TAKES_NONE, edits=TRIES_EDITS if edits else "")
         script = SCRIPT.format(python=sys.executable, burns=burns, said=said, help=text, version=version,
                                takes_words=takes_words, status=status)
-        (self.commands / "rt").write_text(script, encoding="utf-8")
-        (self.commands / "rt").chmod(0o755)
+        self.write("commands/rt", script).chmod(0o755)
 
     def run_command(self, *words: str) -> subprocess.CompletedProcess[str]:
         """Runs a command of the checkout to its end. PATH has the stand-in alone."""

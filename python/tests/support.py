@@ -2,6 +2,8 @@
 import atexit
 import contextlib
 import functools
+import importlib.machinery
+import importlib.util
 import io
 import os
 import pathlib
@@ -11,12 +13,47 @@ import signal
 import subprocess
 import sys
 import tempfile
+import time
+import types
 import unittest
 from collections.abc import Callable
 
 TOP = pathlib.Path(__file__).resolve().parents[2]
 EXAMPLES, SITES = TOP / "examples", TOP / "sites"
 TWO_CARRIERS = str(SITES / "two_carriers.toml")
+
+
+class FolderCase(unittest.TestCase):
+    """A test with a folder of its own."""
+
+    def setUp(self) -> None:
+        self.folder = pathlib.Path(self.enterContext(tempfile.TemporaryDirectory()))
+
+    def write(self, path: str, text: str) -> pathlib.Path:
+        """Writes a file of the folder. Its path."""
+        file = self.folder / path
+        file.parent.mkdir(parents=True, exist_ok=True)
+        file.write_text(text, encoding="utf-8")
+        return file
+
+
+def wait_until(condition: Callable[[], object], seconds: float = 60.0) -> None:
+    """Waits until a condition holds. AssertionError: it does not in time."""
+    until = time.monotonic() + seconds
+    while not condition():
+        assert time.monotonic() < until, "it did not come in time"
+        time.sleep(0.02)
+
+
+def load_command(path: str) -> types.ModuleType:
+    """A command of the repository, which is written in Python, as a module."""
+    name = re.sub(r"\W", "_", path)
+    loader = importlib.machinery.SourceFileLoader(name, str(TOP / path))
+    spec = importlib.util.spec_from_loader(name, loader)
+    assert spec
+    sys.modules[name] = module = importlib.util.module_from_spec(spec)
+    loader.exec_module(module)
+    return module
 
 
 def program(name: str) -> str:

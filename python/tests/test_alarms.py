@@ -4,13 +4,12 @@ import pathlib
 import re
 import shutil
 import subprocess
-import tempfile
 import unittest
 from typing import Any
 
 from tests.hub_support import wait_until
 from tests.made_records import make_records
-from tests.support import TOP, metric_rows, read_document, table_rows
+from tests.support import TOP, FolderCase, metric_rows, read_document
 from tests.test_hub_web import WebCase
 
 RULES = TOP / "deploy" / "prometheus" / "dmr_site.rules.yml"
@@ -76,6 +75,15 @@ def names_in(expression: str) -> tuple[set[str], set[str]]:
     return set(re.findall(r"[A-Za-z_]\w*", bare)) - WORDS, labels
 
 
+def expect_accepted(*words: object) -> None:
+    """promtool, with these words, ends with status 0. SkipTest: there is none."""
+    if not shutil.which("promtool"):
+        raise unittest.SkipTest("there is no promtool: the package prometheus has it")
+    done = subprocess.run(["promtool", *map(str, words)], capture_output=True, text=True, check=False)
+    if done.returncode:
+        raise AssertionError(done.stdout + done.stderr)
+
+
 class Named(unittest.TestCase):
     """The metrics and labels of all expressions."""
 
@@ -133,26 +141,17 @@ class Rules(unittest.TestCase):
                 self.assertTrue(value is None or quoted(value), f"{path.name}:{number}: {value}")
 
     def test_promtool(self) -> None:
-        if not shutil.which("promtool"):
-            self.skipTest("there is no promtool: the package prometheus has it")
-        for words in (["check", "rules", str(RULES)], ["test", "rules", str(TESTS)]):
-            done = subprocess.run(["promtool", *words], capture_output=True, text=True, check=False)
-            self.assertEqual(done.returncode, 0, done.stdout + done.stderr)
+        expect_accepted("check", "rules", RULES)
+        expect_accepted("test", "rules", TESTS)
 
 
-class ScrapeConfig(unittest.TestCase):
+class ScrapeConfig(FolderCase):
     """The job for Prometheus."""
 
     def test_promtool_accepts_it(self) -> None:
         text = (RULES.parent / "scrape.yml").read_text(encoding="utf-8")
         self.assertRegex(text, r'- job_name: dmr_site\n(?:.*\n)* +labels: \{site: ')
-        if not shutil.which("promtool"):
-            self.skipTest("there is no promtool: the package prometheus has it")
-        with tempfile.TemporaryDirectory() as folder:
-            path = pathlib.Path(folder, "prometheus.yml")
-            path.write_text(f'rule_files: ["{RULES}"]\n{text}', encoding="utf-8")
-            done = subprocess.run(["promtool", "check", "config", str(path)], capture_output=True, text=True, check=False)
-        self.assertEqual(done.returncode, 0, done.stdout + done.stderr)
+        expect_accepted("check", "config", self.write("prometheus.yml", f'rule_files: ["{RULES}"]\n{text}'))
 
 
 class Scraped(WebCase):
@@ -176,7 +175,7 @@ class Scraped(WebCase):
             self.assertTrue(f'{label}="{value}"' in octets or f'"{value}"' in sources, f"{label}={value}")
 
 
-class Dashboard(unittest.TestCase):
+class Dashboard(FolderCase):
     """The panels."""
 
     def test_panels(self) -> None:
@@ -226,11 +225,5 @@ class Dashboard(unittest.TestCase):
                 self.assertEqual(expression.count('instance=~"$instance"'), expression.count("{"), place)
 
     def test_promtool_reads_the_expressions(self) -> None:
-        if not shutil.which("promtool"):
-            self.skipTest("there is no promtool: the package prometheus has it")
         rules = "".join(f"      - record: panel:{number}\n        expr: '{it}'\n" for number, it in enumerate(expressions().values())).replace("$__rate_interval", "5m")
-        with tempfile.TemporaryDirectory() as folder:
-            path = pathlib.Path(folder, "panels.yml")
-            path.write_text(f"groups:\n  - name: panels\n    rules:\n{rules}", encoding="utf-8")
-            done = subprocess.run(["promtool", "check", "rules", str(path)], capture_output=True, text=True, check=False)
-        self.assertEqual(done.returncode, 0, done.stdout + done.stderr)
+        expect_accepted("check", "rules", self.write("panels.yml", f"groups:\n  - name: panels\n    rules:\n{rules}"))

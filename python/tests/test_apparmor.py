@@ -1,28 +1,24 @@
 """The profiles of deploy/apparmor permit what the services do: each path that they open, by strace,
 is judged by the rules of the profile."""
 import os
-import pathlib
 import re
 import shutil
 import signal
 import socket
 import subprocess
-import tempfile
-import time
 import unittest
 import urllib.request
 
-from temzaar.sitefile import FREE_PORTS, Site, free_ports
+from temzaar.ports import free_ports
 from tests.apparmor import CALLS, INCLUDED, Need, Profile, needs_of_trace
 from tests.fake_console import FakeConsole
 from tests.made_records import make_records
-from tests.support import TOP, TWO_CARRIERS, program
-from tests.test_served import ACKNOWLEDGED, register_radio
+from tests.served_kit import ACKNOWLEDGED, PATIENCE, free_site, register_radio
+from tests.support import TOP, FolderCase, program, wait_until
 
 PROFILES = TOP / "deploy" / "apparmor"
 # Debian's interpreter, whose modules are in the folders that the profile names
 PYTHON = "/usr/bin/python3"
-SECONDS = 60.0
 
 
 def profile_text(name: str, old: str = "", new: str = "") -> str:
@@ -42,17 +38,9 @@ class Reader(unittest.TestCase):
             "  /d/[0-9]? w,\n  deny /c/no w,\n  /e/* m,\n}\n"
         )
         for path, modes, lacks in (
-            ("/a/x1.txt", "r", ""),
-            ("/b/y.txt", "r", ""),
-            ("/a/x/1.txt", "r", "r"),
-            ("/a/x.txt", "rw", "w"),
-            ("/c/d/e", "rwk", ""),
-            ("/c/", "r", "r"),
-            ("/c/no", "rw", "w"),
-            ("/d/1x", "w", ""),
-            ("/d/xx", "w", "w"),
-            ("/e/", "m", "m"),
-            ("/e/1", "m", ""),
+            ("/a/x1.txt", "r", ""), ("/b/y.txt", "r", ""), ("/a/x/1.txt", "r", "r"),
+            ("/a/x.txt", "rw", "w"), ("/c/d/e", "rwk", ""), ("/c/", "r", "r"), ("/c/no", "rw", "w"),
+            ("/d/1x", "w", ""), ("/d/xx", "w", "w"), ("/e/", "m", "m"), ("/e/1", "m", ""),
         ):
             self.assertEqual(profile.lacks(Need(path, modes)), lacks, (path, modes))
 
@@ -74,26 +62,13 @@ class Reader(unittest.TestCase):
             'stat("/no/state", {st_mode=S_IFREG}) = 0',
             "+++ exited with 0 +++",
         )
-        self.assertEqual(
-            needs_of_trace(lines),
-            [
-                Need("/no/name", "rw"),
-                Need("/no/that", "w"),
-                Need("/usr/", "r"),
-                Need("/no/lib.so", "m"),
-                Need("/no/name", "k"),
-                Need("/no/that", "w"),
-                Need("/no/sub/", "w"),
-                Need("/no/sub/", "w"),
-                Need("/no/a", "rw"),
-                Need("/no/b", "rw"),
-                Need("/no/c", "w"),
-                Need("/no/socket", "rw"),
-            ],
-        )
+        wanted = [("/no/name", "rw"), ("/no/that", "w"), ("/usr/", "r"), ("/no/lib.so", "m"),
+                  ("/no/name", "k"), ("/no/that", "w"), ("/no/sub/", "w"), ("/no/sub/", "w"),
+                  ("/no/a", "rw"), ("/no/b", "rw"), ("/no/c", "w"), ("/no/socket", "rw")]
+        self.assertEqual(needs_of_trace(lines), wanted)
 
 
-class Services(unittest.TestCase):
+class Services(FolderCase):
     """A service at work, in a folder in place of the machine's `/etc`, `/run` and `/var`."""
 
     def setUp(self) -> None:
@@ -101,46 +76,25 @@ class Services(unittest.TestCase):
             raise unittest.SkipTest("there is no strace")
         if not INCLUDED.joinpath("abstractions", "base").is_file():
             raise unittest.SkipTest("there is no apparmor")
-        self.folder = os.path.realpath(tempfile.mkdtemp())
-        self.addCleanup(shutil.rmtree, self.folder)
-        for name in (
-            "usr/bin",
-            "etc/dmr_trunk",
-            "run/dmr_hub",
-            "run/dmr_records",
-            "run/systemd",
-            "var/log/dmr_hub",
-            "var/lib/dmr_trunk",
-        ):
-            os.makedirs(os.path.join(self.folder, name))
+        super().setUp()
+        self.folder = self.folder.resolve()
+        for name in ("usr/bin", "etc/dmr_trunk", "run/dmr_hub", "run/dmr_records", "run/systemd",
+                     "var/log/dmr_hub", "var/lib/dmr_trunk"):
+            (self.folder / name).mkdir(parents=True)
 
     def path(self, name: str) -> str:
         """The path of a file of the machine within the folder."""
-        return self.folder + name
+        return f"{self.folder}{name}"
 
     def start(self, words: list[str], variables: dict[str, str]) -> subprocess.Popen[bytes]:
         """Starts a service, watched by strace. Python does not write what it has compiled: the user
         of a service may not."""
-        trace = [
-            shutil.which("strace") or "",
-            "-ff",
-            "-y",
-            "-s",
-            "4096",
-            "-e",
-            f"trace={CALLS}",
-            "-o",
-            os.path.join(self.folder, "trace"),
-        ]
-        environment = {
-            "PATH": "/usr/bin:/bin",
-            "LANG": "C.UTF-8",
-            "PYTHONDONTWRITEBYTECODE": "1",
-            **variables,
-        }
-        started = subprocess.Popen(
-            [*trace, *words], stderr=subprocess.PIPE, env=environment, cwd="/", process_group=0
-        )
+        trace = [shutil.which("strace") or "", "-ff", "-y", "-s", "4096", "-e", f"trace={CALLS}", "-o",
+                 self.path("/trace")]
+        environment = {"PATH": "/usr/bin:/bin", "LANG": "C.UTF-8", "PYTHONDONTWRITEBYTECODE": "1",
+                       **variables}
+        started = subprocess.Popen([*trace, *words], stderr=subprocess.PIPE, env=environment, cwd="/",
+                                   process_group=0)
         assert started.stderr
         self.addCleanup(started.stderr.close)
         self.addCleanup(started.wait)
@@ -150,20 +104,12 @@ class Services(unittest.TestCase):
     def needs(self) -> list[Need]:
         """What the service needed, with the paths that it has on a machine."""
         needs = []
-        for trace in pathlib.Path(self.folder).glob("trace.*"):
+        for trace in self.folder.glob("trace.*"):
             lines = trace.read_text(encoding="utf-8", errors="replace").splitlines()
             # systemd starts the service, and the profile holds from then on
-            needs.extend(
-                needs_of_trace(lines[1:] if lines and lines[0].startswith("execve(") else lines)
-            )
-        return sorted({Need(it.path.removeprefix(self.folder), it.modes) for it in needs})
-
-    def wait_for(self, path: str) -> None:
-        """Waits until there is a file."""
-        until = time.monotonic() + SECONDS
-        while not os.path.exists(path):
-            self.assertLess(time.monotonic(), until, path)
-            time.sleep(0.05)
+            begins = int(lines[:1] != [] and lines[0].startswith("execve("))
+            needs.extend(needs_of_trace(lines[begins:]))
+        return sorted({Need(it.path.removeprefix(str(self.folder)), it.modes) for it in needs})
 
 
 class HubProfile(Services):
@@ -171,67 +117,46 @@ class HubProfile(Services):
 
     def setUp(self) -> None:
         super().setUp()
-        done = (
-            subprocess.run(
-                [PYTHON, "-c", "import sys; sys.exit(sys.version_info < (3, 11))"], check=False
-            )
-            if os.path.exists(PYTHON)
-            else None
-        )
-        if not done or done.returncode:
+        words = [PYTHON, "-c", "import sys; sys.exit(sys.version_info < (3, 11))"]
+        if not os.path.exists(PYTHON) or subprocess.run(words, check=False).returncode:
             raise unittest.SkipTest(f"{PYTHON} is none of Python 3.11 or later")
         self.fake = FakeConsole()
         self.addCleanup(self.fake.stop)
         self.port = free_ports(1)
-        make_records(pathlib.Path(self.path("/run/dmr_records/site.db")))
-        pathlib.Path(self.path("/etc/dmr_trunk/site.toml")).write_text(
-            f"console_port = {self.fake.port}\nsilence = 600\n", encoding="utf-8"
-        )
+        records = make_records(self.folder / "run/dmr_records/site.db")
+        self.write("etc/dmr_trunk/site.toml", f"console_port = {self.fake.port}\nsilence = 600\n")
+        names = (TOP / "sites" / "names.csv").read_text(encoding="utf-8")
+        self.write("etc/dmr_trunk/names.csv", names)
         text = (TOP / "deploy" / "hub.toml").read_text(encoding="utf-8")
-        text = re.sub(
-            r'"(/etc/|/run/|/var/)', lambda found: f'"{self.folder}{found[1]}', text
-        ).replace('full_users = ["root"]', f"full_users = [{os.getuid()}]")
-        names = pathlib.Path(self.path("/etc/dmr_trunk/names.csv"))
-        names.write_bytes((TOP / "sites" / "names.csv").read_bytes())
-        for path in (self.path("/run/dmr_records/site.db"), names):
+        text = re.sub(r'"(/etc/|/run/|/var/)', lambda found: f'"{self.folder}{found[1]}', text)
+        text = text.replace('full_users = ["root"]', f"full_users = [{os.getuid()}]")
+        for path in (records, self.path("/etc/dmr_trunk/names.csv")):
             text = text.replace('\nfile = ""\n', f'\nfile = "{path}"\n', 1)
         text = text.replace("\nport = 0\n", f"\nport = {self.port}\n")
-        self.config = self.path("/etc/dmr_trunk/hub.toml")
-        pathlib.Path(self.config).write_text(text, encoding="utf-8")
-        self.notified = socket.socket(socket.AF_UNIX, socket.SOCK_DGRAM)
-        self.addCleanup(self.notified.close)
+        self.config = str(self.write("etc/dmr_trunk/hub.toml", text))
+        self.notified = self.enterContext(socket.socket(socket.AF_UNIX, socket.SOCK_DGRAM))
         self.notified.bind(self.path("/run/systemd/notify"))
 
     def installed(self) -> str:
         """Installs the hub in the folder, as `make install` does. The path of its command."""
         library = self.path("/usr/lib/python3/dist-packages")
-        shutil.copytree(
-            TOP / "python" / "temzaar",
-            f"{library}/temzaar",
-            ignore=shutil.ignore_patterns("__pycache__"),
-        )
-        pathlib.Path(library, "temzaar", "VERSION").write_text("1.2.3\n", encoding="utf-8")
-        command = pathlib.Path(self.path("/usr/bin/dmr_hub"))
-        command.write_text(
-            (TOP / "python" / "launcher.in")
-            .read_text(encoding="utf-8")
-            .replace("@TOOL@", "hub")
-            .replace("@PYTHON_LIB@", library),
-            encoding="utf-8",
-        )
-        return str(command)
+        ignored = shutil.ignore_patterns("__pycache__")
+        shutil.copytree(TOP / "python" / "temzaar", f"{library}/temzaar", ignore=ignored)
+        self.write("usr/lib/python3/dist-packages/temzaar/VERSION", "1.2.3\n")
+        text = (TOP / "python" / "launcher.in").read_text(encoding="utf-8")
+        text = text.replace("@TOOL@", "hub").replace("@PYTHON_LIB@", library)
+        return str(self.write("usr/bin/dmr_hub", text))
 
     def get(self, path: str) -> str:
         """What the hub answers to a request."""
-        with urllib.request.urlopen(
-            f"http://127.0.0.1:{self.port}{path}", timeout=SECONDS
-        ) as answer:
+        url = f"http://127.0.0.1:{self.port}{path}"
+        with urllib.request.urlopen(url, timeout=PATIENCE) as answer:
             return str(answer.read().decode())
 
     def drop(self) -> bytes:
         """The reply to a command that the audit log has."""
         with socket.socket(socket.AF_UNIX) as stream:
-            stream.settimeout(SECONDS)
+            stream.settimeout(PATIENCE)
             stream.connect(self.path("/run/dmr_hub/console.sock"))
             stream.sendall(b"drop 1001\n")
             return stream.recv(100)
@@ -239,36 +164,26 @@ class HubProfile(Services):
     def test_it_permits_what_the_hub_does(self) -> None:
         variables = {"NOTIFY_SOCKET": self.path("/run/systemd/notify"), "WATCHDOG_USEC": "1000000"}
         hub = self.start([PYTHON, self.installed(), "--config", self.config], variables)
-        self.wait_for(self.path("/run/dmr_hub/console.sock"))
-        until = time.monotonic() + SECONDS
+        wait_until(lambda: os.path.exists(self.path("/run/dmr_hub/console.sock")))
         found = "/v1/names.json?find=south"
-        while time.monotonic() < until and (
-            "dmr_hub_records_reads_total 0" in self.get("/metrics")
-            or "Mast South" not in self.get(found)
-        ):
-            time.sleep(0.1)
+        wait_until(lambda: "dmr_hub_records_reads_total 0" not in self.get("/metrics")
+                   and "Mast South" in self.get(found))
         self.assertIn("dmr_hub_records_reads_total 1", self.get("/metrics"))
         self.assertIn('"name": "Mast South"', self.get(found))
         self.assertIn("<title>", self.get("/"))
         self.assertEqual(self.drop(), b"ok\n")
         os.killpg(hub.pid, signal.SIGTERM)
-        self.assertEqual(hub.wait(SECONDS), 0, hub.stderr.read() if hub.stderr else b"")
+        self.assertEqual(hub.wait(PATIENCE), 0, hub.stderr.read() if hub.stderr else b"")
         needs = self.needs()
-        for it in (
-            Need("/var/log/dmr_hub/audit.jsonl", "w"),
-            Need("/run/systemd/notify", "w"),
-            Need("/run/dmr_hub/console.sock", "w"),
-            Need("/run/dmr_records/site.db", "k"),
-            Need("/etc/dmr_trunk/names.csv", "r"),
+        for path, modes in (
+            ("/var/log/dmr_hub/audit.jsonl", "w"), ("/run/systemd/notify", "w"),
+            ("/run/dmr_hub/console.sock", "w"), ("/run/dmr_records/site.db", "k"),
+            ("/etc/dmr_trunk/names.csv", "r"),
         ):
-            self.assertTrue(
-                any(it.path == other.path and it.modes in other.modes for other in needs),
-                (it, needs),
-            )
+            self.assertTrue(any(it.path == path and modes in it.modes for it in needs), (path, needs))
         self.assertEqual(Profile(profile_text("dmr_hub")).refused(needs), [])
-        self.assertNotEqual(
-            Profile(profile_text("dmr_hub", "  owner /tmp/???????? rw,\n")).refused(needs), []
-        )
+        changed = profile_text("dmr_hub", "  owner /tmp/???????? rw,\n")
+        self.assertNotEqual(Profile(changed).refused(needs), [])
 
 
 class ControllerProfile(Services):
@@ -276,26 +191,16 @@ class ControllerProfile(Services):
 
     def test_it_permits_what_the_controller_does(self) -> None:
         built = shutil.copy(program("dmr_trunk"), self.path("/usr/bin/dmr_trunk"))
-        site = Site(TWO_CARRIERS, first_port=FREE_PORTS, tick_ms=10, term_entries=50)
-        path, state = self.path("/etc/dmr_trunk/site.toml"), self.path("/var/lib/dmr_trunk")
-        pathlib.Path(path).write_text(site.text(), encoding="utf-8")
-        controller = self.start(
-            [built, "--site", path, "--serve", "--terms", "4"],
-            {"STATE_DIRECTORY": state, "DMR_TRUNK_RECORD": f"{state}/site-1.txt"},
-        )
+        site, state = free_site(tick_ms=10, term_entries=50), self.path("/var/lib/dmr_trunk")
+        path = str(self.write("etc/dmr_trunk/site.toml", site.text()))
+        controller = self.start([built, "--site", path, "--serve", "--terms", "4"],
+                                {"STATE_DIRECTORY": state, "DMR_TRUNK_RECORD": f"{state}/site-1.txt"})
         self.assertEqual(register_radio(site), ACKNOWLEDGED)
-        self.assertEqual(
-            controller.wait(SECONDS), 0, controller.stderr.read() if controller.stderr else b""
-        )
+        said = controller.stderr.read() if controller.wait(PATIENCE) and controller.stderr else b""
+        self.assertEqual(controller.returncode, 0, said)
         needs = self.needs()
         for name, modes in (("site.db", "rw"), ("site.db-wal", "rw"), ("site-1.txt", "rw")):
             self.assertIn(Need(f"/var/lib/dmr_trunk/{name}", modes), needs)
         self.assertEqual(Profile(profile_text("dmr_trunk")).refused(needs), [])
-        self.assertEqual(
-            Profile(profile_text("dmr_trunk", "/*.txt rw,", "/*.txt w,")).refused(needs),
-            [Need("/var/lib/dmr_trunk/site-1.txt", "r")],
-        )
-
-
-if __name__ == "__main__":
-    unittest.main()
+        changed = Profile(profile_text("dmr_trunk", "/*.txt rw,", "/*.txt w,"))
+        self.assertEqual(changed.refused(needs), [Need("/var/lib/dmr_trunk/site-1.txt", "r")])

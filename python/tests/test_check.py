@@ -1,7 +1,5 @@
 """`ci/check`: which parts run, what is printed of a check, and what was skipped."""
 import contextlib
-import importlib.machinery
-import importlib.util
 import io
 import re
 import sys
@@ -9,14 +7,9 @@ import types
 import unittest
 import unittest.mock
 
-from tests.support import TOP
+from tests.support import load_command
 
-LOADER = importlib.machinery.SourceFileLoader("ci_check", str(TOP / "ci" / "check"))
-SPEC = importlib.util.spec_from_loader("ci_check", LOADER)
-assert SPEC
-check = importlib.util.module_from_spec(SPEC)
-sys.modules["ci_check"] = check
-LOADER.exec_module(check)
+check = load_command("ci/check")
 
 # reasons as the tests give them, with the line that is printed at the end
 REASONS = (
@@ -120,7 +113,3 @@ class Parts(unittest.TestCase):
     def test_command_that_is_not_there(self) -> None:
         _, lines = self.run_parts([check.Check("toolchain", ["ci/no-such-command"], 1)])
         self.assertIn("FAILED  toolchain (0 s): ci/no-such-command: No such file or directory;", lines[0])
-
-
-if __name__ == "__main__":
-    unittest.main()

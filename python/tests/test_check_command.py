@@ -1,16 +1,13 @@
 """The command dmr_check, run as its user runs it: statuses, reports, standard input, and a controller that accepts, refuses, or judges nothing."""
 import json
 import os
-import pathlib
 import pty
 import signal
 import subprocess
-import tempfile
-import time
 import unittest
 
 from temzaar.cli.check import MOST_OCTETS
-from tests.support import SITES, TOP, TWO_CARRIERS, program, run_tool, take_signals, tool_words
+from tests.support import SITES, TOP, TWO_CARRIERS, FolderCase, program, run_tool, take_signals, tool_words, wait_until
 from tests.test_check_risks import SITE
 
 FAULTY = SITE.replace("lpcn = 2", "lpcn = 4095").replace("hang = 100", "hnag = 100")
@@ -27,29 +24,22 @@ ACCEPTS = 'printf "carrier 0 -\\ncarrier 1 -\\n"'
 REFUSES = 'echo "dmr_trunk: site file: missing hang" >&2; exit 1'
 
 
-class Command(unittest.TestCase):
+class Command(FolderCase):
     """A folder with site files and with programs that play a controller."""
 
     def setUp(self) -> None:
-        holder = tempfile.TemporaryDirectory()
-        self.addCleanup(holder.cleanup)
-        self.folder = pathlib.Path(holder.name)
+        super().setUp()
         # a dmr_trunk that accepts all is on the PATH, unless a test puts another one there
         self.environment = {**os.environ, "PATH": str(self.folder / "bin")}
-        (self.folder / "bin").mkdir()
         self.controller(ACCEPTS)
 
     def site(self, text: str, name: str = "site.toml") -> str:
         """A site file. Its path."""
-        (self.folder / name).write_bytes(text.encode())
-        return str(self.folder / name)
+        return str(self.write(name, text))
 
-    def controller(self, script: str, name: str = "bin/dmr_trunk") -> str:
-        """A program that plays a controller. Its path."""
-        path = self.folder / name
-        path.write_text(f"#!/bin/sh\nPATH=/usr/bin:/bin\n{script}\n", encoding="utf-8")
-        path.chmod(0o755)
-        return str(path)
+    def controller(self, script: str, name: str = "bin/dmr_trunk") -> None:
+        """Writes a program that plays a controller."""
+        self.write(name, f"#!/bin/sh\nPATH=/usr/bin:/bin\n{script}\n").chmod(0o755)
 
     def check(self, *words: str, **options: object) -> subprocess.CompletedProcess[str]:
         """Runs the command."""
@@ -203,29 +193,14 @@ class Refused(Command):
 
     def test_files(self) -> None:
         large = self.site("#" * (MOST_OCTETS + 1))
-        for path, why in (("/no/such", "cannot read /no/such: No such file or directory"), (str(self.folder), f"cannot read {self.folder}: Is a directory"), ("", "cannot read : No such file or directory"),
-                          (large, f"{large} is larger than 1 MiB: that is not a site file"), ("/dev/zero", "/dev/zero is larger than 1 MiB: that is not a site file")):
+        for path, why in (("", "cannot read : No such file or directory"), (large, f"{large} is larger than 1 MiB: that is not a site file"),
+                          ("/dev/zero", "/dev/zero is larger than 1 MiB: that is not a site file")):
             self.expect([path], 2, "", f"check: {why}\n")
 
-    def test_words(self) -> None:
-        for words in ([], ["a", "b"], ["--link-version", "3", TWO_CARRIERS], ["--no", TWO_CARRIERS, "x"]):
-            done = self.check(*words)
-            self.assertEqual((done.returncode, done.stdout), (2, ""))
-            self.assertIn("usage: ", done.stderr)
-
-    def test_closed_streams(self) -> None:
-        command = " ".join(tool_words("check"))
-        for words, said in ((f"{command} - <&-", "cannot read standard input: it is closed"), (f"{command} {TWO_CARRIERS} >&-", "standard output is closed"),
-                            (f"{command} {TWO_CARRIERS} >/dev/full", "standard output: No space left on device")):
-            done = subprocess.run(["/bin/sh", "-c", words], capture_output=True, text=True, env=self.environment, check=False, timeout=60)
-            self.assertEqual((done.returncode, done.stderr), (2, f"check: {said}\n"))
-
-    def test_a_reader_that_ends(self) -> None:
-        reader, writer = os.pipe()
-        os.close(reader)
-        done = subprocess.run(tool_words("check", self.site(FAULTY)), stdout=writer, stderr=subprocess.PIPE, env=self.environment, check=False, timeout=60)
-        os.close(writer)
-        self.assertEqual((done.returncode, done.stderr), (-signal.SIGPIPE, b""))
+    def test_no_standard_input(self) -> None:
+        words = f"{' '.join(tool_words('check'))} - <&-"
+        done = subprocess.run(["/bin/sh", "-c", words], capture_output=True, text=True, env=self.environment, check=False, timeout=60)
+        self.assertEqual((done.returncode, done.stderr), (2, "check: cannot read standard input: it is closed\n"))
 
     def test_not_utf_8(self) -> None:
         path = self.folder / "site.toml"
@@ -237,10 +212,8 @@ class Refused(Command):
 class Asked(Command):
     """The controller judges."""
 
-    def test_it_accepts_and_refuses(self) -> None:
-        self.expect([TWO_CARRIERS], 0, "right, 0 warnings\ndmr_trunk accepts it\n")
+    def test_it_is_not_asked(self) -> None:
         self.controller(REFUSES)
-        self.expect([self.site(FAULTY)], 1, "refused, 1 warning\ndmr_trunk refuses it: dmr_trunk: site file: missing hang\n")
         self.expect(["--no-controller", TWO_CARRIERS], 0, "not judged, 0 warnings\n")
 
     def test_there_is_none(self) -> None:
@@ -260,7 +233,6 @@ class Asked(Command):
         self.expect(["--controller", "other", TWO_CARRIERS], 0, "other accepts it\n", cwd=self.folder)
 
     def test_it_is_no_program(self) -> None:
-        self.expect(["--controller", "/no/such", TWO_CARRIERS], 2, "", "check: cannot run /no/such: it is not a program\n")
         self.expect(["--controller", TWO_CARRIERS, TWO_CARRIERS], 2, "", f"check: cannot run {TWO_CARRIERS}: it is not a program\n")
 
     def test_it_judges_nothing(self) -> None:
@@ -282,9 +254,7 @@ class Asked(Command):
             temporary = self.folder / f"temporary{number}"
             temporary.mkdir()
             with subprocess.Popen(tool_words("check", TWO_CARRIERS), env={**self.environment, "TMPDIR": str(temporary)}, stdout=subprocess.PIPE, stderr=subprocess.PIPE, preexec_fn=take_signals) as process:
-                until = time.monotonic() + 60
-                while not (self.folder / "began").exists() and time.monotonic() < until:
-                    time.sleep(0.02)
+                wait_until((self.folder / "began").exists)
                 process.send_signal(number)
                 output, errors = process.communicate(timeout=60)
             (self.folder / "began").unlink()

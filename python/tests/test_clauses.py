@@ -1,22 +1,14 @@
 """The clauses that promises name: ci/check-documents finds each under its function or definition, and refuses what is not there or is ambiguous; ci/clauses prints them."""
 import contextlib
 import importlib
-import importlib.machinery
-import importlib.util
 import io
-import pathlib
-import sys
-import tempfile
 import unittest
 from unittest import mock
 
-from tests.support import TOP
+from tests.support import TOP, FolderCase, load_command
 
-sys.path.insert(0, str(TOP / "ci"))
+command = load_command("ci/clauses")
 clauses = importlib.import_module("documents.clauses")
-loader = importlib.machinery.SourceFileLoader("print_clauses", str(TOP / "ci/clauses"))
-command = importlib.util.module_from_spec(importlib.util.spec_from_loader("print_clauses", loader))
-loader.exec_module(command)
 
 CODE = """\
 use x::Y;
@@ -95,22 +87,16 @@ FIRST = """\
 """ + "".join(f"| {number} | It runs | `First::run.ok` | `Pair` | proved | nothing |\n" for number in range(1, 15)) + "| 15 | It ends | no clause | none | by tests | a loop |\n"
 
 
-class Clauses(unittest.TestCase):
+class Clauses(FolderCase):
     """Two crates: `one`, with code and definitions, and `two`, with a law of the same name."""
 
     def setUp(self) -> None:
-        holder = tempfile.TemporaryDirectory()
-        self.addCleanup(holder.cleanup)
-        self.top = pathlib.Path(holder.name)
+        super().setUp()
         for path, text in (("one/src/a.rt", CODE), ("one/specs/Pairs.antt", DEFINITIONS), ("two/src/b.rt", "pub fn law()\n    ensures ok { 2 ≡ 2 }\n{}\n")):
-            (self.top / "crates" / path).parent.mkdir(parents=True)
-            (self.top / "crates" / path).write_text(text, encoding="utf-8")
-        self.page = self.top / "docs/GUARANTEES.md"
-        self.page.parent.mkdir()
-        for module, names in ((clauses, {"TOP": self.top, "PROMISES": self.page}), (command, {"TOP": self.top, "PROMISES": self.page})):
-            replaced = mock.patch.multiple(module, **names)
-            replaced.start()
-            self.addCleanup(replaced.stop)
+            self.write(f"crates/{path}", text)
+        self.page = self.write("docs/GUARANTEES.md", "")
+        for module in (clauses, command):
+            self.enterContext(mock.patch.multiple(module, TOP=self.folder, PROMISES=self.page))
         clauses.all_items.cache_clear()
         self.addCleanup(clauses.all_items.cache_clear)
 
@@ -208,9 +194,7 @@ class Clauses(unittest.TestCase):
                 self.assertEqual(("\n".join(item.comment()), "\n".join([] if line == item.line else item.comment_of_part(line))), (comment, of_part))
 
     def test_other_documents_promise_nothing(self) -> None:
-        other = self.top / "docs/OTHER.md"
-        other.write_text("- **One.** It runs.\n", encoding="utf-8")
-        self.assertEqual(list(clauses.clause_faults(other)), [])
+        self.assertEqual(list(clauses.clause_faults(self.write("docs/OTHER.md", "- **One.** It runs.\n"))), [])
 
     def test_shown_definitions(self) -> None:
         block = f"<!-- check: definition Pair of crates/one/specs/Pairs.antt -->\n```\n{DEFINITIONS.split(chr(10), 1)[1].split(chr(10) * 2)[0]}\n```\n"
@@ -237,7 +221,3 @@ class Promises(unittest.TestCase):
         """The section "By crate" names each crate that is not one of tests."""
         section = (TOP / "docs/GUARANTEES.md").read_text(encoding="utf-8").partition("\n## By crate\n")[2].partition("\n## ")[0]
         self.assertEqual([it.name for it in sorted((TOP / "crates").glob("dmr_*")) if f"`{it.name}`" not in section], [])
-
-
-if __name__ == "__main__":
-    unittest.main()

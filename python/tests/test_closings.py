@@ -5,12 +5,11 @@ import struct
 import unittest
 
 from temzaar.frames import BYE, POLL, FrameType, active, hello, rx
-from temzaar.process import Controller, connect
-from temzaar.sitefile import FREE_PORTS, Site
-from tests.support import TWO_CARRIERS, program, read_document, table_rows
+from temzaar.process import connect
+from tests.served_kit import PATIENCE, free_site, received, served
+from tests.support import read_document, table_rows
 
-# seconds to wait for a note or an answer, and waits of 100 ms until silence ends a connection that something else is to end
-PATIENCE = 60
+# waits of 100 ms until silence ends a connection that something else is to end
 LONG = 600
 CARRIER, LPCN = 1, 2
 UP = hello(CARRIER, LPCN)
@@ -47,10 +46,8 @@ class Closings(unittest.TestCase):
     def serve(self, silence: int) -> None:
         """Serves the site. A connection is silent after `silence` waits of 100 ms. If something else is to end it, these are many, so that a busy
         machine does not make it silent first."""
-        self.site = Site(TWO_CARRIERS, first_port=FREE_PORTS, silence=silence)
-        self.controller = Controller(program("dmr_trunk"), self.site)
-        self.addCleanup(self.controller.stop)
-        self.controller.wait_until_served()
+        self.site = free_site(silence=silence)
+        self.controller = self.enterContext(served(self.site))
 
     def cause_of(self, whose: str, port: int, octets: bytes, leaves: str = "") -> str:
         """Sends octets on a new connection, leaves it by an `end` of the output, by a `reset`, or not, and waits for its end. The cause that is noted."""
@@ -64,8 +61,7 @@ class Closings(unittest.TestCase):
             else:
                 if leaves == "end":
                     stream.shutdown(socket.SHUT_WR)
-                while stream.recv(4096):
-                    pass
+                received(stream)
         return self.noted_cause(whose, since)
 
     def noted_cause(self, whose: str, since: int) -> str:

@@ -5,7 +5,6 @@ import pathlib
 import signal
 import socket
 import subprocess
-import tempfile
 import threading
 import unittest
 from collections.abc import Callable, Iterator, Sequence
@@ -14,8 +13,8 @@ from typing import NamedTuple
 from temzaar.cli import archive, callbook, carriers, check, conform, console, hub, report, restart, siteview, timeline
 from temzaar.ports import free_ports
 from temzaar.process import connect
-from temzaar.sitefile import FREE_PORTS, Site
-from tests.support import EXAMPLES, TOP, TWO_CARRIERS, call_tool, take_signals, tool_words
+from tests.served_kit import free_site
+from tests.support import EXAMPLES, TOP, TWO_CARRIERS, FolderCase, call_tool, take_signals, tool_words
 
 MAINS: dict[str, Callable[[list[str]], int]] = {"siteview": siteview.main, "timeline": timeline.main, "callbook": callbook.main, "report": report.main, "archive": archive.main, "carriers": carriers.main,
                                                  "conform": conform.main, "check": check.main, "restart": restart.main, "hub": hub.main, "console": console.main}
@@ -96,12 +95,29 @@ CASES = (
     *(Case("carriers", f"--site {{site}} {words}", 2, said) for words, said in (
         ("--seconds -1", "not a number above 0"), ("--seconds nan", "not a number above 0"), ("--radios 0", "not a whole number from 1"), ("--carriers 17", "not a whole number from 1 to 16"),
         ("--port 65530", "not a whole number from 1"), ("--polls x", "not a whole number from 0"), ("--link-version 3", "invalid choice"), ("--faults", "--faults needs --program"))),
-    *(Case("timeline", f"{DRAW} {words}", 2, said) for words, said in (("--page x", "not a number above 0"), ("--calls x", "invalid choice"), ("--page 1", "--page needs --out"))),
+    *(Case("timeline", f"{DRAW} {words}", 2, said) for words, said in (
+        *((f"--page {it}", "not a number above 0") for it in ("x", "0", "nan")), ("--calls x", "invalid choice"), ("--page 1", "--page needs --out"),
+        ("--page 1 --calls --out a", "--page draws, and --calls lists"))),
+    *(Case("timeline", f"--records {{none}} {words}", 2, said) for words, said in (
+        ("--calls", "--records has no script"), ("--script a", "--records has no script"), ("--start 10:00", "--records has no script"),
+        ("--program a", "not allowed with"), ("--page 1", "--page needs --out"))),
+    *(Case("timeline", words, 2, "the following arguments are required: --site, --script") for words in ("--program a", "--site a --printed b", "--script a --printed b")),
     *(Case("conform", f"--site {{site}} --program {{program}} {words}", 2, said) for words, said in (("--row x", "invalid choice"), ("--wait 0", "not a number above 0"))),
-    *(Case("check", words, 2, said) for words, said in (("--link-version 3 {site}", "invalid choice"), ("{site} {site}", "unrecognized arguments"))),
-    *(Case("callbook", words, 2, said) for words, said in (("--radio x", "not a whole number from 1"), ("--format xml", "invalid choice"), ("site.db", "unrecognized arguments"))),
-    *(Case("report", words, 2, said) for words, said in (("--slots 0", "not a whole number from 1"), ("--limit x", "not a number above 0"), ("--slots 3 --site {site}", "not allowed with"))),
-    *(Case("archive", words, 2, said) for words, said in (("--keep-days 0", "not a whole number from 1"), ("--older-days x", "not a whole number from 0"), ("2026-11.db", "unrecognized arguments"))),
+    *(Case("check", words, 2, said) for words, said in (
+        ("--link-version 3 {site}", "invalid choice"), ("{site} {site}", "unrecognized arguments"), ("", "the following arguments are required: SITE_FILE"),
+        ("--radios 3 site.toml", "--radios needs --plan"), ("--share 3 site.toml", "--share needs --plan"), ("--plan site.toml", "--plan takes no site file"),
+        ("--plan --names names.csv", "--plan takes no site file and no names"), ("--plan --radios 3", "--plan needs --radios, --calls-an-hour and --seconds"),
+        ("--plan --share 101", "at most 100"), ("--plan --radios 4097", "from 1 to 4096"))),
+    *(Case("callbook", words, 2, said) for words, said in (
+        ("--radio x", "not a whole number from 1"), ("--radio 0", "from 1 to 16777215"), ("--group 16777216", "from 1 to 16777215"), ("--carrier 16", "from 0 to 15"),
+        ("--cause hang", "invalid choice"), ("--last 0", "not a whole number from 1"), ("--format xml", "invalid choice"), ("--from", "expected one argument"),
+        ("--seconds 0", "not a number above 0"), ("--from -2x", "expected one argument"), ("site.db", "unrecognized arguments"))),
+    *(Case("report", words, 2, said) for words, said in (
+        *((f"--slots {it}", "not a whole number from 1 to 31") for it in (0, 32)), *((f"--limit {it}", "not a number above 0") for it in ("x", 0)),
+        ("--slots 3 --site {site}", "not allowed with"), ("--out x --format csv", "not allowed with"), ("--format html", "invalid choice"))),
+    *(Case("archive", words, 2, said) for words, said in (
+        ("--keep-days 0", "not a whole number from 1"), ("--older-days x", "not a whole number from 0"), ("2026-11.db", "unrecognized arguments"),
+        ("--older-days 7 --keep-days 7", "--keep-days has to be greater than --older-days"))),
     *(Case("restart", f"--site {{site}} {words}", 2, said) for words, said in (("--within 0", "not a number above 0"), ("--back x", "not a number above 0"), ("now", "unrecognized arguments"))),
     *(Case("hub", words, 2, said) for words, said in (("--config", "expected one argument"), ("status", "unrecognized arguments"))),
     *(Case("console", f"{words} status", 2, said) for words, said in (
@@ -139,14 +155,12 @@ class Consoles:
         self.thread.join(5)
 
 
-class Ended(unittest.TestCase):
+class Ended(FolderCase):
     """The table, and what only a process of its own can show."""
 
     def setUp(self) -> None:
-        holder = tempfile.TemporaryDirectory()
-        self.addCleanup(holder.cleanup)
-        self.folder = pathlib.Path(holder.name)
-        site, free = pathlib.Path(TWO_CARRIERS).read_text(encoding="utf-8"), Site(TWO_CARRIERS, first_port=FREE_PORTS)
+        super().setUp()
+        site, free = pathlib.Path(TWO_CARRIERS).read_text(encoding="utf-8"), free_site()
         self.names = {"site": TWO_CARRIERS, "script": str(SCRIPT), "printed": str(PRINTED), "program": FAKE, "out": str(self.folder / "out"), "none": str(self.folder / "none")}
         (self.folder / "folder").mkdir()
         for name, octets in (("text", b"This is\nsomething else.\n"), ("octets", b"\xff\xfe\0"), ("wrong", site.replace("console_port = 7100", 'console_port = "7100"').encode()),
@@ -182,37 +196,32 @@ class Ended(unittest.TestCase):
             self.assertEqual((done.returncode, done.stdout), (2, ""), tool)
             self.assertIn("required", done.stderr)
 
-    def run_in_shell(self, tool: str, *words: str, shell: str) -> subprocess.CompletedProcess[str]:
-        """A command as a process; `shell` is what a shell does with its output."""
-        line = ["bash", "-c", f'"$@" {shell}', "bash", *tool_words(tool, *words)]
-        return subprocess.run(line, capture_output=True, text=True, check=False, timeout=60)
-
-    def test_outputs_that_end_or_are_full(self) -> None:
-        draw = ("timeline", "--site", TWO_CARRIERS, "--script", str(SCRIPT), "--printed", str(PRINTED), "--decoder", "/bin/true")
+    def printing(self) -> list[tuple[str, ...]]:
+        """Words of commands that print something."""
         consoles = Consoles(REPLIES)
         self.addCleanup(consoles.close)
-        view, ask = ("siteview", "--console", consoles.place, "--once"), ("console", "--tcp", consoles.place, "status")
-        for words, fault in ((draw, 1), (view, 1), (ask, 1), (("check", "--no-controller", TWO_CARRIERS), 2)):
+        return [("timeline", *DRAW.format(**self.names).split()), ("siteview", "--console", consoles.place, "--once"), ("console", "--tcp", consoles.place, "status"),
+                ("check", "--no-controller", TWO_CARRIERS)]
+
+    def test_outputs_that_end_or_are_full(self) -> None:
+        for words in self.printing():
+            fault = 2 if words[0] == "check" else 1
             for shell, status, said in (("> /dev/full", fault, f"{words[0]}: standard output: No space left on device\n"),
                                         (">&-", fault, f"{words[0]}: standard output is closed\n"), ("2>&- >/dev/null", 0, "")):
                 with self.subTest(words[0], shell=shell):
-                    done = self.run_in_shell(*words, shell=shell)
+                    line = ["bash", "-c", f'"$@" {shell}', "bash", *tool_words(*words)]
+                    done = subprocess.run(line, capture_output=True, text=True, check=False, timeout=60)
                     self.assertEqual((done.returncode, done.stderr), (status, said))
 
     def test_a_closed_pipe(self) -> None:
-        """The reader has gone before anything was written. argparse passes over that when it prints a help text."""
-        consoles = Consoles(REPLIES)
-        self.addCleanup(consoles.close)
-        for words, status in ((("timeline", "--site", TWO_CARRIERS, "--script", str(SCRIPT), "--printed", str(PRINTED), "--decoder", "/bin/true"), -signal.SIGPIPE),
-                              (("siteview", "--console", consoles.place, "--once"), -signal.SIGPIPE),
-                              (("console", "--tcp", consoles.place, "status"), -signal.SIGPIPE), (("check", "--no-controller", TWO_CARRIERS), -signal.SIGPIPE)):
+        """The reader has gone before anything was written."""
+        for words in self.printing():
             with self.subTest(words[0]):
                 reader, writer = os.pipe()
                 os.close(reader)
-                with subprocess.Popen(tool_words(*words), stdout=writer, stderr=subprocess.PIPE, text=True) as process:
-                    os.close(writer)
-                    _, said = process.communicate(timeout=60)
-                self.assertEqual((process.returncode, said), (status, ""))
+                done = subprocess.run(tool_words(*words), stdout=writer, stderr=subprocess.PIPE, text=True, check=False, timeout=60)
+                os.close(writer)
+                self.assertEqual((done.returncode, done.stderr), (-signal.SIGPIPE, ""))
 
     @contextlib.contextmanager
     def waiting(self, words: Sequence[str], more: Sequence[str]) -> Iterator[subprocess.Popen[str]]:

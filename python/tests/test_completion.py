@@ -1,5 +1,4 @@
 """The completion for bash: it knows each command, and each option that the command's manual page has."""
-import pathlib
 import re
 import shutil
 import subprocess
@@ -11,11 +10,11 @@ FILE = TOP / "deploy" / "completion" / "dmr.bash"
 COMMANDS = ("dmr_trunk", "dmr_decode", "dmr_siteview", "dmr_timeline", "dmr_callbook", "dmr_report", "dmr_archive", "dmr_carriers", "dmr_conform", "dmr_check", "dmr_restart", "dmr_hub", "dmr_console")
 
 
-def completed(words: list[str], within: pathlib.Path = TOP) -> list[str]:
+def completed(words: list[str]) -> list[str]:
     """What bash offers for the last of these words."""
     before = words[-2] if len(words) > 1 else ""
     script = f'. "{FILE}"; compopt() {{ :; }}; COMP_WORDS=("$@"); COMP_CWORD=$(($# - 1)); COMPREPLY=(); _dmr "$1" "${{!#}}" "{before}"; printf "%s\\n" "${{COMPREPLY[@]}}"'
-    return subprocess.run(["bash", "-c", script, "bash", *words], cwd=within, capture_output=True, text=True, check=True).stdout.split()
+    return subprocess.run(["bash", "-c", script, "bash", *words], cwd=TOP, capture_output=True, text=True, check=True).stdout.split()
 
 
 def options_in_manual(command: str) -> set[str]:
@@ -68,7 +67,3 @@ class Completion(unittest.TestCase):
             with self.subTest(words):
                 self.assertEqual(completed(words), ["sites/two_carriers.toml"])
         self.assertEqual(completed(["dmr_callbook", "--names", "sites/"]), ["sites/names.csv"])
-
-
-if __name__ == "__main__":
-    unittest.main()

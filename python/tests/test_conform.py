@@ -1,10 +1,10 @@
 """The command conform: what it says of clients that are right, of clients that are wrong in one point each, of the kit's example and of the client of docs/LINK.md."""
 import concurrent.futures
-import functools
 import json
 import os
 import re
 import select
+import shutil
 import signal
 import socket
 import subprocess
@@ -15,9 +15,10 @@ import unittest
 from collections.abc import Sequence
 
 from temzaar.conformance import NO_SOURCE, OWN, ROWS, USUAL, TestSource
-from temzaar.sitefile import FREE_PORTS, Site
+from temzaar.sitefile import Site
+from tests.served_kit import free_site
 from tests.station_kit import FAST, ask, built, compilers, first_difference
-from tests.support import TOP, TWO_CARRIERS, program, read_document, table_rows, take_signals, tool_words
+from tests.support import TOP, program, read_document, table_rows, take_signals, tool_words
 from tests.wrong_client import POINTS, word_of
 
 LINK = read_document("LINK.md")
@@ -33,7 +34,7 @@ Parts = list["concurrent.futures.Future[Findings]"]
 
 def write_site(folder: str) -> Site:
     """Writes a site on free ports to `site.toml` in a folder."""
-    site = Site(TWO_CARRIERS, first_port=FREE_PORTS)
+    site = free_site()
     with open(os.path.join(folder, "site.toml"), "w", encoding="utf-8") as it:
         it.write(site.text())
     return site
@@ -63,39 +64,6 @@ def judge(client: Sequence[str], rows: Sequence[str], *words: str) -> Findings:
         return run_json(conform_words(folder, rows, "--json", *words, "--", *client))
 
 
-@functools.cache
-def tools() -> concurrent.futures.ThreadPoolExecutor:
-    """What runs the tools, some at a time."""
-    return concurrent.futures.ThreadPoolExecutor(AT_A_TIME)
-
-
-@functools.cache
-def wrong_clients() -> dict[str, "concurrent.futures.Future[Findings]"]:
-    """The findings of the row in whose point a client is wrong."""
-    rows = sorted(POINTS, key=lambda row: row not in LONGEST)
-    return {row: tools().submit(judge, [*CLIENT, row], [row]) for row in rows}
-
-
-@functools.cache
-def right_client() -> Parts:
-    """The findings of all rows of the client that is right."""
-    return [tools().submit(judge, CLIENT, rows) for rows in GROUPS]
-
-
-@functools.cache
-def right_client_in_version_1() -> Parts:
-    """The findings of those rows in which the versions differ."""
-    return [tools().submit(judge, CLIENT, rows, "--link-version", "1") for rows in (GROUPS[0], ("pieces", "numbers", "fallback"))]
-
-
-@functools.cache
-def kits_example() -> Parts:
-    """The findings of all rows of the kit's example. SkipTest: there is no cc."""
-    compilers()
-    words = [built("example", FAST), "-p", "{port}", "-c", "{carrier}", "-l", "{lpcn}", "-v", "{version}", "-f", "{bursts}"]
-    return [tools().submit(judge, words, rows) for rows in GROUPS]
-
-
 def joined(parts: Parts) -> Findings:
     """The findings of all parts."""
     return {row: finding for part in parts for row, finding in part.result().items()}
@@ -104,14 +72,18 @@ def joined(parts: Parts) -> Findings:
 class Clients(unittest.TestCase):
     """Clients that the tool starts. All are begun before the first is looked at, so that they run side by side."""
 
-    def setUp(self) -> None:
+    @classmethod
+    def setUpClass(cls) -> None:
         program("dmr_trunk")
-        wrong_clients(), right_client(), right_client_in_version_1()
-        try:
-            kits_example()
-        except unittest.SkipTest:
-            # the test of it says so
-            pass
+        submit = cls.enterClassContext(concurrent.futures.ThreadPoolExecutor(AT_A_TIME)).submit
+        # of each wrong client the row in whose point it is wrong
+        cls.wrong = {row: submit(judge, [*CLIENT, row], [row]) for row in sorted(POINTS, key=lambda row: row not in LONGEST)}
+        cls.right = [submit(judge, CLIENT, rows) for rows in GROUPS]
+        # the rows in which the versions differ
+        cls.in_version_1 = [submit(judge, CLIENT, rows, "--link-version", "1") for rows in (GROUPS[0], ("pieces", "numbers", "fallback"))]
+        if shutil.which("cc"):
+            words = [built("example", FAST), "-p", "{port}", "-c", "{carrier}", "-l", "{lpcn}", "-v", "{version}", "-f", "{bursts}"]
+            cls.example = [submit(judge, words, rows) for rows in GROUPS]
 
     def assert_passed(self, said: Findings, rows: Sequence[str], but: set[str]) -> None:
         """These rows passed but some, which were not tried."""
@@ -123,19 +95,20 @@ class Clients(unittest.TestCase):
     def test_each_wrong_client_is_found(self) -> None:
         """Each row that the tool judges has a client that is wrong in its point, and fails it."""
         self.assertEqual(set(POINTS), {*USUAL, *OWN})
-        for row, future in wrong_clients().items():
+        for row, future in self.wrong.items():
             with self.subTest(row, point=POINTS[row]):
                 self.assertEqual(future.result()[row][0], "failed", future.result())
 
     def test_the_right_client_passes(self) -> None:
-        self.assert_passed(joined(right_client()), ROWS, {"transmits"})
+        self.assert_passed(joined(self.right), ROWS, {"transmits"})
 
     def test_the_right_client_passes_in_version_1(self) -> None:
-        self.assert_passed(joined(right_client_in_version_1()), [*USUAL, "pieces", "numbers", "fallback"], {"next", "again", "numbers", "fallback"})
+        self.assert_passed(joined(self.in_version_1), [*USUAL, "pieces", "numbers", "fallback"], {"next", "again", "numbers", "fallback"})
 
     def test_the_kits_example_passes(self) -> None:
         """It retransmits nothing. What docs/LINK.md shows is what was seen, but for counts and times."""
-        said = joined(kits_example())
+        compilers()
+        said = joined(self.example)
         self.assert_passed(said, ROWS, {"transmits", "again"})
         shown = [line.strip() for line in LINK[LINK.index("$ tools/conform"):LINK.index("The tool fills in")].splitlines()[1:] if line.strip() not in ("", "..")]
         lines = [f"{row:9}  {said[row][0]:9}  {said[row][1]}" for row in ROWS if row in {line.split()[0] for line in shown[:-1]}]
@@ -155,11 +128,8 @@ class OtherClients(unittest.TestCase):
 
     def setUp(self) -> None:
         program("dmr_trunk")
-        holder = tempfile.TemporaryDirectory()
-        self.addCleanup(holder.cleanup)
-        self.folder = holder.name
-        self.site = write_site(self.folder)
-        self.port = self.site.row(0)["port"]
+        self.folder = self.enterContext(tempfile.TemporaryDirectory())
+        self.port = write_site(self.folder).row(0)["port"]
 
     def test_the_client_of_the_document(self) -> None:
         """It leaves after four POLLs. What it claims is right, in both versions."""
@@ -231,7 +201,3 @@ class Document(unittest.TestCase):
         source = TestSource()
         bursts = [line[2:] for line in source.text.splitlines() if line and not line.endswith("voice")]
         self.assertIsNone(first_difference(ask(f"take {it}" for it in bursts), [f"0 0 1 3 {it.word.hex().upper()}" for it in source.bursts]))
-
-
-if __name__ == "__main__":
-    unittest.main()

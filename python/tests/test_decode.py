@@ -5,14 +5,13 @@ import pathlib
 import random
 import re
 import subprocess
-import tempfile
 import unittest
 
 from temzaar import code, pdus
 from temzaar.entries import EVENTS, read_row
 from temzaar.frames import FrameType, burst_frame, hello, rx, welcome
 from tests import decoded
-from tests.support import EXAMPLES, TOP, TWO_CARRIERS, program
+from tests.support import EXAMPLES, TOP, TWO_CARRIERS, FolderCase, program
 
 EACH = 40
 CRATE = TOP / "crates" / "dmr_decode"
@@ -160,10 +159,11 @@ class Program(unittest.TestCase):
             self.expect(["pdu", octets.hex()], "", f"      {words}\n")
 
 
-class Judged(unittest.TestCase):
+class Judged(FolderCase):
     """The program, asked what the controller of a site makes of its input."""
 
     def setUp(self) -> None:
+        super().setUp()
         self.program, self.draws = program("dmr_decode"), random.Random(1)
 
     def ask(self, *words: str, text: str = "", **options: object) -> subprocess.CompletedProcess[str]:
@@ -218,10 +218,8 @@ class Judged(unittest.TestCase):
             sent: dict[str, list[tuple[str, str]]] = {"0": [], "1": []}
             for match in filter(None, map(SENT.fullmatch, judged)):
                 sent[match[1]].append((match[2], match[3]))
-            with tempfile.TemporaryDirectory() as folder:
-                path = pathlib.Path(folder) / "script.txt"
-                path.write_text(script, encoding="utf-8")
-                replay = subprocess.run([program("dmr_trunk"), "--site", TWO_CARRIERS, "--script", path], capture_output=True, text=True, check=True).stdout
+            path = self.write("script.txt", script)
+            replay = subprocess.run([program("dmr_trunk"), "--site", TWO_CARRIERS, "--script", path], capture_output=True, text=True, check=True).stdout
             lines = self.ask("replay", text=replay).stdout.split("\n")
             wanted: dict[str, list[tuple[str, str]]] = {}
             of: list[tuple[str, str]] = []
@@ -309,17 +307,15 @@ class Judged(unittest.TestCase):
 
     def test_site_files(self) -> None:
         """Faults of the site file are the controller's."""
-        with tempfile.TemporaryDirectory() as folder:
-            site, script = pathlib.Path(folder) / "site.toml", pathlib.Path(folder) / "script.txt"
-            script.write_text("", encoding="utf-8")
-            whole = pathlib.Path(TWO_CARRIERS).read_text(encoding="utf-8")
-            for text in (None, "", "[", "\xff", whole.replace("control = 0", "control = 5"), whole.replace("lpcn = 2", "lpcn = 5000")):
-                if text is not None:
-                    site.write_text(text, encoding="latin-1")
-                wanted = subprocess.run([program("dmr_trunk"), "--site", site, "--script", script], capture_output=True, text=True, check=False)
-                done = self.ask("script", "--site", str(site))
-                self.assertEqual((done.returncode, done.stdout, done.stderr), (1, "", wanted.stderr.replace("dmr_trunk:", "dmr_decode:")))
-                self.assertEqual(wanted.returncode, 1)
+        site, script = self.folder / "site.toml", self.write("script.txt", "")
+        whole = pathlib.Path(TWO_CARRIERS).read_text(encoding="utf-8")
+        for text in (None, "", "[", "\xff", whole.replace("control = 0", "control = 5"), whole.replace("lpcn = 2", "lpcn = 5000")):
+            if text is not None:
+                site.write_text(text, encoding="latin-1")
+            wanted = subprocess.run([program("dmr_trunk"), "--site", site, "--script", script], capture_output=True, text=True, check=False)
+            done = self.ask("script", "--site", str(site))
+            self.assertEqual((done.returncode, done.stdout, done.stderr), (1, "", wanted.stderr.replace("dmr_trunk:", "dmr_decode:")))
+            self.assertEqual(wanted.returncode, 1)
 
     def test_words(self) -> None:
         """A site is for three tasks, one of which has to have it, and has a path."""
@@ -346,7 +342,3 @@ class Judged(unittest.TestCase):
             assert shown
             burst = self.ask(*shown[1].split(" ")).stdout.split("burst ")[1].strip()
             self.assertIn("act: radio 1001 is registered\n", self.judge(f"open 0\nbytes 0 {hello(0, 1, 1).hex()}\nbytes 0 021A00{burst}\n"))
-
-
-if __name__ == "__main__":
-    unittest.main()

@@ -6,12 +6,11 @@ import re
 import shutil
 import signal
 import subprocess
-import tempfile
 import unittest
 
 from temzaar.archive import DEFAULT_FOLDER
 from temzaar.sitefile import FREE_PORTS, Site
-from tests.support import TOP, TWO_CARRIERS, program, read_document
+from tests.support import TOP, TWO_CARRIERS, FolderCase, program, read_document
 
 DEPLOY = TOP / "deploy"
 FOLDERS = ("nftables", "wireguard", "stunnel", "systemd", "apparmor")
@@ -122,18 +121,16 @@ class Examples(unittest.TestCase):
             self.assertRegex((TOP / "Makefile").read_text(encoding="utf-8"), rf"\tfor kind in [\w ]*\b{folder}\b[\w ]*; do install ")
 
 
-class Pages(unittest.TestCase):
+class Pages(FolderCase):
     """The documents as they are installed."""
 
     def test_no_link_leads_nowhere(self) -> None:
-        with tempfile.TemporaryDirectory() as name:
-            subprocess.run([TOP / "ci" / "install-pages", name], check=True)
-            folder = pathlib.Path(name)
-            pages = {page.name: page.read_text(encoding="utf-8") for page in folder.glob("*.md")}
-            self.assertEqual(set(pages), {"CHANGELOG.md", *(it.name for it in (TOP / "docs").glob("*.md"))})
-            for page, text in pages.items():
-                for target in re.findall(r"\]\(([^)#]+)(?:#[^)]*)?\)", text):
-                    self.assertTrue(target.startswith("https://") or (folder / target).is_file(), f"{page}: {target}")
+        subprocess.run([TOP / "ci" / "install-pages", self.folder], check=True)
+        pages = {page.name: page.read_text(encoding="utf-8") for page in self.folder.glob("*.md")}
+        self.assertEqual(set(pages), {"CHANGELOG.md", *(it.name for it in (TOP / "docs").glob("*.md"))})
+        for page, text in pages.items():
+            for target in re.findall(r"\]\(([^)#]+)(?:#[^)]*)?\)", text):
+                self.assertTrue(target.startswith("https://") or (self.folder / target).is_file(), f"{page}: {target}")
         self.assertIn("(../README.md", read_document("ASSURANCE.md"))
         self.assertFalse([page for page, text in pages.items() if "](../" in text])
 
@@ -142,10 +139,11 @@ class Pages(unittest.TestCase):
         self.assertEqual((done.returncode, done.stdout.partition(":")[0], done.stderr), (2, "Installs the documents", ""))
 
 
-class ExampleSite(unittest.TestCase):
+class ExampleSite(FolderCase):
     """The ports are those of the example site."""
 
     def setUp(self) -> None:
+        super().setUp()
         self.site = Site(TWO_CARRIERS)
         self.ports = {row["number"]: row["port"] for row in self.site.rows}
 
@@ -177,19 +175,17 @@ class ExampleSite(unittest.TestCase):
             raise unittest.SkipTest("unshare makes no namespaces")
         number = signal.Signals[re.findall(r"^STOPSIGNAL (\w+)$", read("Containerfile"), re.M)[0]]
         site = Site(TWO_CARRIERS, first_port=FREE_PORTS)
-        with tempfile.TemporaryDirectory() as folder:
-            path = pathlib.Path(folder, "site.toml")
-            path.write_text(site.text(), encoding="utf-8")
-            with subprocess.Popen([*words, built, "--site", str(path), "--serve"], stderr=subprocess.PIPE, text=True, errors="replace") as outer:
-                try:
-                    assert outer.stderr
-                    # the console is the last port to listen
-                    self.assertTrue(any("console: listening" in line for line in outer.stderr))
-                    first = pathlib.Path(f"/proc/{outer.pid}/task/{outer.pid}/children").read_text(encoding="utf-8").split()[0]
-                    os.kill(int(first), number)
-                    outer.wait(5)
-                finally:
-                    outer.kill()
+        path = self.write("site.toml", site.text())
+        with subprocess.Popen([*words, built, "--site", str(path), "--serve"], stderr=subprocess.PIPE, text=True, errors="replace") as outer:
+            try:
+                assert outer.stderr
+                # the console is the last port to listen
+                self.assertTrue(any("console: listening" in line for line in outer.stderr))
+                first = pathlib.Path(f"/proc/{outer.pid}/task/{outer.pid}/children").read_text(encoding="utf-8").split()[0]
+                os.kill(int(first), number)
+                outer.wait(5)
+            finally:
+                outer.kill()
 
     def test_log_rate(self) -> None:
         text = read("systemd/log_rate.conf")

@@ -106,7 +106,3 @@ class Entries(unittest.TestCase):
         rows = [(kind, keys, about) for kinds, keys, about in table_rows(read_document("FORMATS.md"), "| kind | fields") for kind in kinds.split(", ")]
         self.assertEqual({kind: keys for kind, keys, _ in rows}, EVENTS | ANSWERS)
         self.assertEqual({kind for kind, _, about in rows if about.startswith("event: ")}, set(EVENTS))
-
-
-if __name__ == "__main__":
-    unittest.main()

@@ -253,7 +253,3 @@ class Steps(unittest.TestCase):
         """Expected are six units in as many lanes as there are, and a tenth of a unit after them."""
         lanes = run.side_by_side()
         self.assertEqual(self.progress.seconds_left(), max(6 * 90 / lanes + 9, 180))
-
-
-if __name__ == "__main__":
-    unittest.main()

@@ -38,7 +38,3 @@ class Trial(unittest.TestCase):
             self.assertIn(f"`{alarm}`", read_document("ALARMS.md"))
         for metric in metrics:
             self.assertIn(f"`{metric}`", read_document("HUB.md"))
-
-
-if __name__ == "__main__":
-    unittest.main()

@@ -3,19 +3,20 @@
 A busy machine delays the controller and these tests. So all bounds of times are wide: a lower one is two thirds of the time that the site file says.
 """
 import contextlib
+import pathlib
 import re
 import socket
+import threading
 import time
 import unittest
 from typing import Any
 
 from temzaar import code, pdus
 from temzaar.console import Console
-from temzaar.frames import POLL, hello, rx
-from temzaar.process import Controller, connect
-from temzaar.sitefile import FREE_PORTS, Site
-from tests.support import SITES, TWO_CARRIERS, program
-from tests.test_served import Carrier
+from temzaar.frames import POLL, active, hello, rx
+from temzaar.process import connect
+from tests.served_kit import Carrier, free_site, received, served
+from tests.support import SITES, TWO_CARRIERS, wait_until
 
 SIXTEEN_CARRIERS = str(SITES / "sixteen_carriers.toml")
 # the seconds after which an answer, an end or a note is late even on a busy machine
@@ -24,12 +25,16 @@ PATIENCE = 120
 LONG = 600
 
 
-def received(stream: socket.socket) -> bytes:
-    """All octets up to the end of a connection. ConnectionResetError: it is reset."""
-    octets = b""
-    while piece := stream.recv(65536):
-        octets += piece
-    return octets
+def wakeups(pid: int) -> int:
+    """How often the threads that a process has now have begun to wait."""
+    threads = pathlib.Path(f"/proc/{pid}/task").glob("*/status")
+    texts = [it.read_text(encoding="utf-8") for it in threads]
+    return sum(int(re.findall(r"\nvoluntary_ctxt_switches:\s+(\d+)", it)[0]) for it in texts)
+
+
+def page_faults(pid: int) -> int:
+    """How often a process has touched a page of memory that it did not have yet."""
+    return int(pathlib.Path(f"/proc/{pid}/stat").read_text(encoding="utf-8").rpartition(")")[2].split()[7])
 
 
 class Served(unittest.TestCase):
@@ -37,10 +42,8 @@ class Served(unittest.TestCase):
 
     def serve(self, *words: str, path: str = TWO_CARRIERS, **changes: Any) -> None:
         """Serves the site of a file with changed keys, by these further words of the command line."""
-        self.site = Site(path, first_port=FREE_PORTS, **changes)
-        self.controller = Controller(program("dmr_trunk"), self.site, words)
-        self.addCleanup(self.controller.stop)
-        self.controller.wait_until_served()
+        self.site = free_site(path, **changes)
+        self.controller = self.enterContext(served(self.site, *words))
 
     def carrier(self, number: int) -> Carrier:
         """A carrier that was welcome."""
@@ -67,7 +70,7 @@ class Terms(Served):
         self.controller.reader.join(PATIENCE)
         self.assertEqual(self.terms(), ["10 entries, 0 polls, 0 bursts, 0 noise, 0 registrations, 0 refusals"] * 3)
         delays = re.findall(r"the clock was delayed by (\d+) ms", "\n".join(self.controller.notes))
-        due = 30 * self.site.tick_seconds + sum(map(int, delays)) / 1000
+        due = 30 * self.site.plan["tick_ms"] / 1000 + sum(map(int, delays)) / 1000
         self.assertGreater(ended - began, due / 1.5)
         self.assertLess(ended - served, due * 1.5)
 
@@ -75,9 +78,9 @@ class Terms(Served):
         """If nobody connects to sixteen carriers and the console, their threads wake 25 times a second at most. A tick of 60 ms is 17 of these."""
         self.serve(path=SIXTEEN_CARRIERS, tick_ms=60)
         time.sleep(1)
-        before, began = self.controller.wakeups(), time.monotonic()
+        before, began = wakeups(self.controller.pid), time.monotonic()
         time.sleep(6)
-        self.assertLess(self.controller.wakeups() - before, 25 * (time.monotonic() - began))
+        self.assertLess(wakeups(self.controller.pid) - before, 25 * (time.monotonic() - began))
 
     def test_one_site_for_all_terms(self) -> None:
         """Over the ends of three terms connections, a registration and a call go on, and each term has all its entries."""
@@ -166,3 +169,34 @@ class Connections(Served):
             second.sendall(b"status\n")
             second.shutdown(socket.SHUT_WR)
             self.assertEqual(received(second), b"status carriers 0 radios 0 asks 0 lines 0 calls 0 fill aloha\n")
+
+
+class TermMemory(Served):
+    """A site of two carriers that send nothing but ACTIVE frames, as fast as their ports read. A term ends after less than a second."""
+
+    def flood(self, number: int) -> None:
+        """Sends ACTIVE frames of a carrier until the controller has stopped."""
+        row = self.site.row(number)
+        with connect(self.site.address, row["port"]) as stream, contextlib.suppress(OSError):
+            stream.sendall(hello(number, row["lpcn"]))
+            while True:
+                stream.sendall(active(1) * 100)
+
+    # entries of a term, and pages of the system, of 4,096 octets, that those of one journal take
+    ENTRIES = 4000
+    PAGES = ENTRIES * 568 // 4096
+
+    def test_a_term_takes_over_the_lists_of_the_term_before(self) -> None:
+        """Once each list has had its length, the end of a term touches fewer new pages than one journal has."""
+        self.serve(tick_ms=60, term_entries=self.ENTRIES)
+        senders = [threading.Thread(target=self.flood, args=(number,), daemon=True) for number in (0, 1)]
+        for sender in senders:
+            sender.start()
+        wait_until(lambda: len(self.terms()) >= 4)
+        before, first = page_faults(self.controller.pid), len(self.terms())
+        wait_until(lambda: len(self.terms()) >= first + 5)
+        faults, ends = page_faults(self.controller.pid) - before, len(self.terms()) - first
+        self.controller.stop()
+        for sender in senders:
+            sender.join(10)
+        self.assertLess(faults / ends, self.PAGES / 2, f"{faults} page faults at {ends} ends of terms of {self.PAGES} pages")

@@ -1,21 +1,19 @@
 """docs/LINK.md: its frames and charts are those of the code, its bursts those of docs/FORMATS.md, and a carrier sees what it says."""
-import os
 import re
 import tempfile
 import unittest
 
 from temzaar import code
 from temzaar.frames import BYE, DONE, FROM_CARRIER, POLL, TO_CARRIER, Cutter, Frame, FrameType, Link, active, burst_frame, hello, rx, welcome
-from temzaar.process import Controller, connect, replay
+from temzaar.process import connect, replay
 from temzaar.script import read_printed
-from temzaar.sitefile import FREE_PORTS, Site
+from temzaar.sitefile import Site
+from tests import served_kit
 from tests.decoded import frame_lines
 from tests.support import TWO_CARRIERS, program, read_document, table_rows
 
 LINK, FORMATS = read_document("LINK.md"), read_document("FORMATS.md")
 BURSTS = {name: bytes.fromhex(burst) for name, _, _, burst in table_rows(LINK, "## Bursts for tests")}
-# seconds to wait for the end of a connection
-PATIENCE = 60
 
 
 def frame_of(octets: bytes) -> Frame:
@@ -32,12 +30,10 @@ def frame_of(octets: bytes) -> Frame:
 
 def replayed(script: list[str], **changes: int) -> bytes:
     """The octets that go to carrier 0 when a script is replayed."""
-    built = program("dmr_trunk")
-    with tempfile.TemporaryDirectory() as folder:
-        path = os.path.join(folder, "site.toml")
-        with open(path, "w", encoding="utf-8") as it:
-            it.write(Site(TWO_CARRIERS, **changes).text())
-        return read_printed(replay(built, path, "\n".join(script)))[0][0]
+    with tempfile.NamedTemporaryFile("w", suffix=".toml", encoding="utf-8") as file:
+        file.write(Site(TWO_CARRIERS, **changes).text())
+        file.flush()
+        return read_printed(replay(program("dmr_trunk"), file.name, "\n".join(script)))[0][0]
 
 
 class Tables(unittest.TestCase):
@@ -180,10 +176,9 @@ class Ends(unittest.TestCase):
         return b"" if text == "closed, and nothing before" else self.ANSWERS
 
     def test_what_is_seen(self) -> None:
-        site = Site(TWO_CARRIERS, first_port=FREE_PORTS, silence=20)
+        site = served_kit.free_site(silence=20)
         port, tried = site.row(0)["port"], set()
-        with Controller(program("dmr_trunk"), site) as controller:
-            controller.wait_until_served()
+        with served_kit.served(site):
             for causes, text, _ in table_rows(LINK, "## How a connection ends"):
                 for cause in self.SENT.keys() & set(causes.split(", ")):
                     with self.subTest(cause):
@@ -194,11 +189,8 @@ class Ends(unittest.TestCase):
     def received(self, port: int, cause: str) -> bytes:
         """All that comes on a connection that ends for a cause."""
         with connect("127.0.0.1", port) as stream:
-            stream.settimeout(PATIENCE)
+            stream.settimeout(served_kit.PATIENCE)
             stream.sendall(self.SENT[cause] + (POLL if cause not in ("end of input", "silence") else b""))
             if cause == "end of input":
                 stream.shutdown(1)
-            octets = b""
-            while piece := stream.recv(4096):
-                octets += piece
-        return octets
+            return served_kit.received(stream)

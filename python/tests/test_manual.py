@@ -1,19 +1,15 @@
 """The manual pages, as `ci/write-manual` writes them: their form, and that they have the options, statuses, keys, messages and commands of the programs and documents."""
 import functools
-import importlib.machinery
-import importlib.util
 import os
-import pathlib
 import re
 import shlex
 import shutil
 import subprocess
 import sys
-import tempfile
 import unittest
 from typing import NamedTuple
 
-from tests.support import TOP, manual_pages, program, read_document, run_tool, table_rows
+from tests.support import TOP, FolderCase, load_command, manual_pages, program, read_document, run_tool, table_rows
 from tests.test_messages import as_pattern, messages
 
 WRITE = TOP / "ci" / "write-manual"
@@ -109,7 +105,7 @@ def says(text: str, wanted: str) -> bool:
     return text[:1].lower() + text[1:len(wanted)] == wanted[:1].lower() + wanted[1:] and text[len(wanted):len(wanted) + 1] in ("", ".")
 
 
-class Form(unittest.TestCase):
+class Form(FolderCase):
     """The form of each page."""
 
     def test_there_is_a_page_for_each(self) -> None:
@@ -155,27 +151,21 @@ class Form(unittest.TestCase):
 
     def test_each_run_writes_the_same(self) -> None:
         """The prefix is that of the words, and the date that of the environment."""
-        with tempfile.TemporaryDirectory() as folder:
-            for name in ("one", "two"):
-                subprocess.run([sys.executable, WRITE, "--prefix", "/opt/x-y", f"{folder}/{name}"], check=True, env={**os.environ, "SOURCE_DATE_EPOCH": "0"})
-            for page, path in manual_pages().items():
-                one, two = (pathlib.Path(folder, it, path.parent.name, page).read_bytes() for it in ("one", "two"))
-                self.assertEqual(one, two)
-                self.assertIn(b'"1970-01-01"', one)
-                self.assertNotIn(b"/usr/local", one)
-            self.assertIn(rb"/opt/x\-y/share/doc", pathlib.Path(folder, "one/man8/dmr_trunk.8").read_bytes())
+        for name in ("one", "two"):
+            subprocess.run([sys.executable, WRITE, "--prefix", "/opt/x-y", self.folder / name], check=True, env={**os.environ, "SOURCE_DATE_EPOCH": "0"})
+        for page, path in manual_pages().items():
+            one, two = ((self.folder / it / path.parent.name / page).read_bytes() for it in ("one", "two"))
+            self.assertEqual(one, two)
+            self.assertIn(b'"1970-01-01"', one)
+            self.assertNotIn(b"/usr/local", one)
+        self.assertIn(rb"/opt/x\-y/share/doc", (self.folder / "one/man8/dmr_trunk.8").read_bytes())
 
     def test_a_source_that_adds_to_nothing(self) -> None:
         """A row for an option, or a status, that the program does not have is refused."""
-        loader = importlib.machinery.SourceFileLoader("write_manual", str(WRITE))
-        spec = importlib.util.spec_from_loader("write_manual", loader)
-        assert spec
-        writing = importlib.util.module_from_spec(spec)
-        loader.exec_module(writing)
+        writing = load_command("ci/write-manual")
         for section, row in (("OPTIONS", "| --nothing | Text. |"), ("EXIT STATUS", "| 7 | Text. |"), ("DESCRIPTION", "@nothing"), ("FILES", "@paragraph HUB.md No paragraph begins so")):
-            with self.subTest(row), tempfile.TemporaryDirectory() as folder:
-                path = pathlib.Path(folder, "dmr_check.1.md")
-                path.write_text(f"# dmr_check(1): check\n\n## {section}\n\n{row}\n", encoding="utf-8")
+            with self.subTest(row):
+                path = self.write("dmr_check.1.md", f"# dmr_check(1): check\n\n## {section}\n\n{row}\n")
                 with self.assertRaises(SystemExit):
                     writing.Writer(writing.Source(path), set()).page("0", "/usr", "")
 
@@ -270,7 +260,7 @@ class Statuses(unittest.TestCase):
         self.assertTrue(all(entry.text for entry in entries))
 
 
-class SiteFile(unittest.TestCase):
+class SiteFile(FolderCase):
     """The page of the site file."""
 
     def test_keys(self) -> None:
@@ -289,10 +279,7 @@ class SiteFile(unittest.TestCase):
         lines = sections_of("dmr_trunk.5")["EXAMPLES"]
         text = "\n".join(unescaped(line).removeprefix("    ") for line in lines[lines.index(".EX") + 1:lines.index(".EE")]) + "\n"
         built = program("dmr_trunk")
-        with tempfile.NamedTemporaryFile("w", suffix=".toml") as site:
-            site.write(text)
-            site.flush()
-            done = subprocess.run([built, "--site", site.name, "--script", os.devnull], capture_output=True, text=True, check=False)
+        done = subprocess.run([built, "--site", self.write("site.toml", text), "--script", os.devnull], capture_output=True, text=True, check=False)
         self.assertEqual((done.returncode, done.stdout, done.stderr), (0, "carrier 0 -\ncarrier 1 -\n", ""))
 
 
@@ -304,7 +291,3 @@ class Console(unittest.TestCase):
         self.assertEqual([entry.tags[0] for entry in entries_of(sections_of("dmr_trunk.8")["CONSOLE"])], wanted)
         own = [row[0].split()[0].rstrip(",") for row in table_rows(read_document("HUB.md"), "| line | reply")]
         self.assertEqual([entry.tags[0].split()[0] for entry in entries_of(sections_of("dmr_hub.8")["CONSOLE"])], own)
-
-
-if __name__ == "__main__":
-    unittest.main()

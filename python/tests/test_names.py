@@ -1,11 +1,10 @@
 """The file of names: what is read of it, what is refused with its line, and how a name is shown next to its number."""
-import csv
-import pathlib
-import tempfile
+import os
 import unittest
 
 from temzaar.names import MOST_BAD, MOST_CHARACTERS, MOST_LINES, NO_NAMES, Kind, Names, NamesFault, NamesFile, bearers_in, named, parse_names, read_names
-from temzaar.printable import columns_of, cut_text, padded, safe_cell
+from temzaar.printable import columns_of, cut_text, padded
+from tests.support import FolderCase
 
 RIGHT = "kind,number,name\nradio,1001,Bus 12\ntalkgroup,91,Drivers\ncarrier,0,Mast North\n"
 NAMES = parse_names(RIGHT.encode(), "names.csv").names
@@ -54,7 +53,7 @@ class Right(unittest.TestCase):
             self.assertEqual(parse(line).bad, ())
 
 
-class Bad(unittest.TestCase):
+class Bad(FolderCase):
     """Lines that are not used. Each has its number; the others are used."""
 
     def test_each(self) -> None:
@@ -82,14 +81,13 @@ class Bad(unittest.TestCase):
 
     def test_no_right_line(self) -> None:
         """A file of something else is a fault, and not a file without names."""
-        with tempfile.TemporaryDirectory() as folder:
-            path = pathlib.Path(folder, "a\x1bb")
-            for octets, said in ((b"\x7fELF\x02", "not kind,number,name"), ("radio,1,Bus".encode("utf-16"), "the kind is not"), (b"radio,0,a\nradio,0,b\n", "the number of a radio")):
-                path.write_bytes(octets)
-                with self.assertRaises(NamesFault) as caught:
-                    read_names(str(path))
-                self.assertTrue(str(caught.exception).startswith(f"{folder}/a\\x1bb: line 1: {said}"), caught.exception)
-                self.assertTrue(str(caught.exception).endswith("; no line of the file is right"))
+        path = self.folder / "a\x1bb"
+        for octets, said in ((b"\x7fELF\x02", "not kind,number,name"), ("radio,1,Bus".encode("utf-16"), "the kind is not"), (b"radio,0,a\nradio,0,b\n", "the number of a radio")):
+            path.write_bytes(octets)
+            with self.assertRaises(NamesFault) as caught:
+                read_names(str(path))
+            self.assertTrue(str(caught.exception).startswith(f"{self.folder}/a\\x1bb: line 1: {said}"), caught.exception)
+            self.assertTrue(str(caught.exception).endswith("; no line of the file is right"))
 
     def test_too_many_lines(self) -> None:
         """The names up to the greatest number of lines are used."""
@@ -104,15 +102,13 @@ class Bad(unittest.TestCase):
         self.assertEqual((len(notes), notes[0][:24], notes[-1]), (6, "names.csv: line 2: not k", "names.csv: 1995 more lines are not used; `dmr_check --names names.csv` lists them"))
 
     def test_files(self) -> None:
-        with tempfile.TemporaryDirectory() as folder:
-            path = pathlib.Path(folder, "names.csv")
-            self.assertRaisesRegex(NamesFault, "names.csv: No such file or directory", read_names, str(path))
-            self.assertRaisesRegex(NamesFault, "Is a directory", read_names, folder)
-            path.write_text(RIGHT, encoding="utf-8")
-            self.assertEqual(read_names(str(path)).names, NAMES)
-            with open(path, "wb") as it:
-                it.truncate((1 << 24) + 1)
-            self.assertRaisesRegex(NamesFault, "more than 16777216 octets", read_names, str(path))
+        path = str(self.folder / "names.csv")
+        self.assertRaisesRegex(NamesFault, "names.csv: No such file or directory", read_names, path)
+        self.assertRaisesRegex(NamesFault, "Is a directory", read_names, str(self.folder))
+        self.write("names.csv", RIGHT)
+        self.assertEqual(read_names(path).names, NAMES)
+        os.truncate(path, (1 << 24) + 1)
+        self.assertRaisesRegex(NamesFault, "more than 16777216 octets", read_names, path)
 
 
 class Shown(unittest.TestCase):
@@ -145,12 +141,3 @@ class Shown(unittest.TestCase):
         self.assertEqual([columns_of(it) for it in ("abc", "Süd", "東京", "e\u0301")], [3, 3, 4, 1])
         self.assertEqual([cut_text("東京駅前", it) for it in (8, 7, 6, 2)], ["東京駅前", "東京..", "東京..", ".."])
         self.assertEqual((cut_text("Bus 12 spare", 8), padded("東京", 6), padded("東京", 2)), ("Bus 12..", "東京  ", "東京"))
-
-    def test_a_spreadsheet_takes_no_name_for_a_formula(self) -> None:
-        for name in ("=1+1", "+1", "-1", "@a"):
-            self.assertEqual(safe_cell(parse(f"radio,1,{name}").names.name_of(Kind.RADIO, 1)), f"'{name}")
-        self.assertEqual(next(csv.reader(["'=1+1"])), ["'=1+1"])
-
-
-if __name__ == "__main__":
-    unittest.main()

@@ -1,13 +1,10 @@
 """The console's examples in docs/OPERATING.md: a line, and under it the answer."""
-import os
 import re
-import tempfile
 import unittest
 
 from temzaar.console import LISTS
 from temzaar.process import replay
 from temzaar.script import read_printed
-from temzaar.sitefile import Site
 from tests.support import TWO_CARRIERS, program, read_document
 
 OPERATING = read_document("OPERATING.md")
@@ -61,10 +58,5 @@ class Console(unittest.TestCase):
     def test_answers_that_depend_on_no_state(self) -> None:
         chosen = [(asked, answer) for asked, answer in exchanges() if asked.split()[0] in ALWAYS or answer[0] in ("error unknown command", "error no carrier")]
         self.assertGreaterEqual(len(chosen), 6)
-        built = program("dmr_trunk")
-        with tempfile.TemporaryDirectory() as folder:
-            path = os.path.join(folder, "site.toml")
-            with open(path, "w", encoding="utf-8") as it:
-                it.write(Site(TWO_CARRIERS).text())
-            _, told = read_printed(replay(built, path, "".join(f"say {asked}\n" for asked, _ in chosen)))
+        _, told = read_printed(replay(program("dmr_trunk"), TWO_CARRIERS, "".join(f"say {asked}\n" for asked, _ in chosen)))
         self.assertEqual(told, "".join(f"{line}\n" for _, answer in chosen for line in answer))

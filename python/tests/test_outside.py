@@ -3,22 +3,18 @@ import asyncio
 import contextlib
 import io
 import os
-import pathlib
 import pty
-import shutil
 import signal
 import socket
-import sqlite3
 import subprocess
 import sys
-import tempfile
 import time
 import unittest
 import xml.etree.ElementTree
 from collections.abc import Callable
 from unittest import mock
 
-from temzaar.cli import callbook, carriers, check, console, hub, siteview, timeline
+from temzaar.cli import callbook, carriers, check, console, hub, restart, siteview, timeline
 from temzaar.cli.command import print_note
 from temzaar.frames import FROM_CARRIER, POLL, Cutter, hello
 from temzaar.hub import notes
@@ -28,8 +24,9 @@ from temzaar.printable import printable
 from temzaar.records import BadRow, RecordsFault, opened_records
 from tests.fake_console import FakeConsole
 from tests.hub_support import HubCase, wait_until
-from tests.made_records import locked, make_records
-from tests.support import TWO_CARRIERS, call_tool, tool_words
+from tests.made_records import change, locked, make_records
+from tests import support
+from tests.support import TWO_CARRIERS, FolderCase, call_tool, tool_words
 
 # What sets the title of a terminal, and clears it.
 HOSTILE = "\x1b]0;owned\x07\x1b[2J"
@@ -37,12 +34,8 @@ SHOWN = "\\x1b]0;owned\\x07\\x1b[2J"
 STATUS = "status carriers 2 radios 0 asks 0 lines {} calls 0 fill aloha {}"
 
 
-class Shown(unittest.TestCase):
+class Shown(FolderCase):
     """Texts of others on a terminal, and in files."""
-
-    def setUp(self) -> None:
-        self.folder = pathlib.Path(tempfile.mkdtemp())
-        self.addCleanup(shutil.rmtree, self.folder)
 
     def serve(self) -> FakeConsole:
         """A console that is not to be trusted."""
@@ -54,8 +47,7 @@ class Shown(unittest.TestCase):
     def hostile_records(self) -> str:
         """A file of records with a cause that commands a terminal."""
         path = make_records(self.folder / "site.db")
-        with contextlib.closing(sqlite3.connect(path)) as conn, conn:
-            conn.execute("UPDATE calls SET cause = ?", (f"{HOSTILE}\u00e9",))
+        change(path, "UPDATE calls SET cause = ?", [f"{HOSTILE}\u00e9"])
         return str(path)
 
     def test_a_text(self) -> None:
@@ -110,7 +102,8 @@ class Words(unittest.TestCase):
         cases: tuple[tuple[Callable[[list[str]], int], tuple[str, ...]], ...] = (
             (carriers.main, ("--site", none, "--program", "")), (console.main, ("--socket", "", "status")),
             (timeline.main, ("--site", none, "--script", none, "--program", "")), (timeline.main, ("--records", "")), (callbook.main, ("--records", "")),
-            (siteview.main, ("--hub", "", "--once")), (hub.main, ("--records", "")), (hub.main, ("--config=",)), (check.main, ("--controller", "", TWO_CARRIERS)))
+            (siteview.main, ("--hub", "", "--once")), (hub.main, ("--records", "")), (hub.main, ("--config=",)), (check.main, ("--controller", "", TWO_CARRIERS)),
+            (restart.main, ("--command", "")))
         for main, words in cases:
             with self.subTest(words):
                 done = call_tool(main, *words)
@@ -118,12 +111,11 @@ class Words(unittest.TestCase):
                 self.assertRegex(done.stderr, r"error: argument --[a-z]+: the word is empty\n$")
 
 
-class Files(unittest.TestCase):
+class Files(FolderCase):
     """Files of records that are none."""
 
     def setUp(self) -> None:
-        self.folder = pathlib.Path(tempfile.mkdtemp())
-        self.addCleanup(shutil.rmtree, self.folder)
+        super().setUp()
         self.path = self.folder / "site.db"
 
     def assert_refused(self, about: str) -> None:
@@ -157,9 +149,7 @@ class Files(unittest.TestCase):
         with locked(self.path):
             for tool in ("callbook", "timeline"):
                 with subprocess.Popen(tool_words(tool, "--records", str(self.path)), env={**os.environ, "TMPDIR": str(temporary)}, stderr=subprocess.DEVNULL) as running:
-                    until = time.monotonic() + 20
-                    while not list(temporary.glob("dmr_records_*")) and time.monotonic() < until:
-                        time.sleep(0.01)
+                    support.wait_until(lambda: list(temporary.glob("dmr_records_*")))
                     # it has made the folder, and waits in it
                     time.sleep(0.3)
                     running.terminate()
@@ -225,7 +215,3 @@ class Service(HubCase):
                    "async def run():\n    try:\n        await Worker('x', 0.05).do(threading.Event().wait)\n    except Late:\n        print('late')\nasyncio.run(run())\n")
         done = await asyncio.to_thread(subprocess.run, [sys.executable, "-c", program], capture_output=True, timeout=20, check=False)
         self.assertEqual((done.returncode, done.stdout), (0, b"late\n"), done.stderr)
-
-
-if __name__ == "__main__":
-    unittest.main()

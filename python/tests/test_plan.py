@@ -131,15 +131,6 @@ class Command(unittest.TestCase):
             self.assertEqual((done.returncode, len(lines), lines[-1]), (int("few" in last), 3 + rows, last))
             self.assertTrue(lines[0].startswith(f"{words[0]} radio{'s' if words[0] != '1' else ''}, each with"))
 
-    def test_words(self) -> None:
-        for words, said in ((("--radios", "3", "site.toml"), "--radios needs --plan"), (("--share", "3", "site.toml"), "--share needs --plan"), (("--plan", "site.toml"), "--plan takes no site file"),
-                            (("--plan", "--names", "names.csv"), "--plan takes no site file and no names"),
-                            (("--plan", "--radios", "3"), "--plan needs --radios, --calls-an-hour and --seconds"), ((*self.WORDS, "--share", "101"), "at most 100"),
-                            ((*self.WORDS, "--radios", "4097"), "from 1 to 4096"), ((), "the following arguments are required: SITE_FILE")):
-            done = call_tool(check.main, *words)
-            self.assertEqual((done.returncode, done.stdout), (2, ""))
-            self.assertIn(said, done.stderr)
-
 
 class Advice(unittest.TestCase):
     """The sites of docs/SITE_FILE.md, "Three sites to begin with"."""
@@ -183,7 +174,3 @@ class Advice(unittest.TestCase):
             self.assertEqual((most_net, most_site, int(found[2]), net_bits + site_bits), (2 ** net_bits - 1, 2 ** site_bits - 1, 4 << site_bits, 12))
         self.assertIn("0x4000 + 5 × 128 + 2 × 4 + 3 = 0x428B", self.PAGE)
         self.assertEqual(0x4000 + 5 * 128 + 2 * 4 + 3, 0x428B)
-
-
-if __name__ == "__main__":
-    unittest.main()

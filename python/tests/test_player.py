@@ -4,12 +4,12 @@ A grant that is sent after its call's P_CLEAR is of a call that has ended. A gra
 neither is a fault.
 """
 import unittest
-from dataclasses import dataclass
+from argparse import Namespace
 from typing import NamedTuple
 
 from temzaar import code, pdus
 from temzaar.frames import Link
-from temzaar.player import Backoff, Play, Slots
+from temzaar.player import Backoff, Play, Sign, overlaps, sign_of
 from temzaar.sitefile import Site
 from tests.support import TWO_CARRIERS
 
@@ -54,25 +54,11 @@ class Signs(unittest.TestCase):
     def test_sights(self) -> None:
         for case in SIGHTS:
             with self.subTest(case.name):
-                slots = Slots()
-                for sign, since, received in case.signs:
-                    if sign == "X":
-                        slots.lose(1, since, received)
-                    else:
-                        (slots.grant if sign[0] in "GL" else slots.clear)((1, 1), pdus.read(pdu_octets(sign)), since, received)
-                self.assertEqual(slots.overlaps(), case.overlaps)
+                signs = [Sign(False, (), *times) if sign == "X" else sign_of(pdus.read(pdu_octets(sign)), *times) for sign, *times in case.signs]
+                self.assertEqual(overlaps(signs), case.overlaps)
 
 
-@dataclass
-class Options:
-    """The settings of a play."""
-    radios: int = 4
-    seed: int = 1
-    link_version: int | None = None
-    seconds: float = 1.0
-    polls: int = 0
-    fast: bool = False
-    troubles: float = 0.0
+OPTIONS = Namespace(radios=4, seed=1, link_version=None, seconds=1.0, polls=0, fast=False)
 
 
 class SilentCarrier:
@@ -90,7 +76,7 @@ class Played(unittest.TestCase):
     def play(self, *bursts: tuple[int, bytes]) -> Play:
         """A play that is shown bursts, each for a slot, a second apart."""
         site = Site(TWO_CARRIERS)
-        play, carrier = Play(site, Options()), SilentCarrier(site)
+        play, carrier = Play(site, OPTIONS), SilentCarrier(site)
         for slot, octets in bursts:
             play.receive_burst(carrier, slot, code.burst_of(octets), carrier.sent + 0.5)
             carrier.sent += 1
@@ -100,7 +86,7 @@ class Played(unittest.TestCase):
         late, fill = pdu_octets("L91/1001"), ALOHA
         play = self.play((0, pdu_octets("G91/1001")), (0, fill), (0, fill), (0, fill), (0, late), (0, bytes(10)), (0, late))
         self.assertEqual(list(play.radios.talkers), [(0, 1)])
-        counted = play.counts["grants"], play.counts["late grants"], play.slots.overlaps(), sum(play.faults.values())
+        counted = play.counts["grants"], play.counts["late grants"], sum(map(overlaps, play.signs.values())), sum(play.faults.values())
         self.assertEqual(counted, (1, 2, 0, 0))
 
     def test_nobody_talks_for_a_late_grant_alone(self) -> None:
@@ -108,14 +94,10 @@ class Played(unittest.TestCase):
 
     def test_a_call_on_anothers_slot(self) -> None:
         play = self.play((1, pdu_octets("C91")), (0, ALOHA), (0, pdu_octets("G91/1001")), (0, pdu_octets("G92/1002")))
-        self.assertEqual(play.slots.overlaps(), 1)
+        self.assertEqual(sum(map(overlaps, play.signs.values())), 1)
 
     def test_a_flipped_burst_is_a_fault(self) -> None:
         site = Site(TWO_CARRIERS)
-        play = Play(site, Options())
+        play = Play(site, OPTIONS)
         play.receive_burst(SilentCarrier(site), 0, code.burst_of(ALOHA, [5]), 1.0)
         self.assertEqual(sum(play.faults.values()), 1)
-
-
-if __name__ == "__main__":
-    unittest.main()

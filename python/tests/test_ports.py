@@ -72,7 +72,3 @@ class Ports(unittest.TestCase):
         sites = [Site(path, first_port=FREE_PORTS) for _ in range(2)]
         ports = {site.console_port for site in sites} | {row["port"] for site in sites for row in site.rows}
         self.assertEqual((len(ports), {site.address for site in sites}), (34, {"127.0.0.1"}))
-
-
-if __name__ == "__main__":
-    unittest.main()

@@ -43,10 +43,8 @@ class Shown(unittest.TestCase):
 
     def setUp(self) -> None:
         self.clock, self.out, self.screen = Clock(), io.StringIO(), Terminal()
-        for change in (unittest.mock.patch.dict("os.environ", {"COLUMNS": "60", "TERM": "vt100"}),
-                       unittest.mock.patch.object(time, "strftime", lambda _: "12:00:00")):
-            change.start()
-            self.addCleanup(change.stop)
+        self.enterContext(unittest.mock.patch.dict("os.environ", {"COLUMNS": "60", "TERM": "vt100"}))
+        self.enterContext(unittest.mock.patch.object(time, "strftime", lambda _: "12:00:00"))
 
     def lines(self) -> list[str]:
         """The lines of the output that is not a terminal."""
@@ -210,7 +208,3 @@ class Durations(unittest.TestCase):
                               (59 * 60, "59 min"), (60 * 60, "1 h"), (107 * 60, "1 h 50 min")):
             with self.subTest(seconds):
                 self.assertEqual(progress.duration(seconds), text)
-
-
-if __name__ == "__main__":
-    unittest.main()

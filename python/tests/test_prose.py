@@ -1,19 +1,11 @@
 """`ci/prose`: what it counts in each kind of file, and how it compares the counts with its list."""
 import contextlib
-import importlib.machinery
-import importlib.util
 import io
-import pathlib
-import tempfile
 import unittest
 
-from tests.support import TOP
+from tests.support import FolderCase, load_command
 
-LOADER = importlib.machinery.SourceFileLoader("prose", str(TOP / "ci" / "prose"))
-SPEC = importlib.util.spec_from_loader("prose", LOADER)
-assert SPEC
-prose = importlib.util.module_from_spec(SPEC)
-LOADER.exec_module(prose)
+prose = load_command("ci/prose")
 
 THIRTY = "One " + "word " * 28 + "more"
 
@@ -87,7 +79,7 @@ class Sentences(unittest.TestCase):
         self.assertEqual(found("rt", f"let a; // {half}\n// {half}\n"), [])
 
 
-class Listed(unittest.TestCase):
+class Listed(FolderCase):
     """The list, and what differs from it."""
 
     def test_a_list_is_read_as_it_was_written(self) -> None:
@@ -109,10 +101,7 @@ class Listed(unittest.TestCase):
                 self.assertEqual(prose.check(places, allowed), status)
 
     def test_which_files_are_read(self) -> None:
-        with tempfile.TemporaryDirectory() as name:
-            top = pathlib.Path(name)
-            for path, text in (("a.md", "anew"), ("out/a.md", "anew"), ("docs/TRUSTED.md", "anew"), ("b", "#!/bin/sh\n# anew"), ("c", "# anew"), ("d.txt", "anew"),
-                               ("e.rt", "// ok"), ("Makefile", "# anew"), ("f.py", "# anew")):
-                (top / path).parent.mkdir(exist_ok=True)
-                (top / path).write_text(text + "\n", encoding="utf-8")
-            self.assertEqual(sorted(prose.read_places(prose.files_below(top), top)), ["Makefile", "a.md", "b", "f.py"])
+        for path, text in (("a.md", "anew"), ("out/a.md", "anew"), ("docs/TRUSTED.md", "anew"), ("b", "#!/bin/sh\n# anew"), ("c", "# anew"), ("d.txt", "anew"),
+                           ("e.rt", "// ok"), ("Makefile", "# anew"), ("f.py", "# anew")):
+            self.write(path, f"{text}\n")
+        self.assertEqual(sorted(prose.read_places(prose.files_below(self.folder), self.folder)), ["Makefile", "a.md", "b", "f.py"])

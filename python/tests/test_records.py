@@ -1,20 +1,18 @@
 """The file of records: docs/RECORDS.md, the tables that `dmr_records` makes, and the file that a
 served controller writes of a worked session."""
-import contextlib
 import csv
 import json
 import pathlib
 import re
 import sqlite3
 import tempfile
-import unittest
 from collections import Counter
-from collections.abc import Callable, Iterator
+from collections.abc import Callable
 
 from temzaar.cli import archive, callbook, report
 from temzaar.hub.newrecords import SUMMED, read_new
-from tests.made_records import NOON, insert, make_records
-from tests.support import TOP, call_tool, program, queries_of, read_document, table_rows
+from tests.made_records import NOON, insert, make_records, opened
+from tests.support import TOP, FolderCase, call_tool, queries_of, read_document, table_rows
 from tests.worked_session import CALLS, EVENTS, REGISTRATIONS, RUNS, Columns, Session
 
 TABLES = ("schema_version", "terms", "calls", "events", "carriers", "registrations", "removed")
@@ -79,17 +77,11 @@ def statements_of_first() -> str:
     return text
 
 
-@contextlib.contextmanager
-def opened(path: pathlib.Path | str) -> Iterator[sqlite3.Connection]:
-    """The database, closed at the end."""
-    with contextlib.closing(sqlite3.connect(path)) as conn:
-        yield conn
-
-
-class Documented(unittest.TestCase):
+class Documented(FolderCase):
     """The document says what the tables are, and its queries answer what was worked out."""
 
     def setUp(self) -> None:
+        super().setUp()
         self.document = read_document("RECORDS.md")
         self.conn = sqlite3.connect(":memory:")
         self.addCleanup(self.conn.close)
@@ -133,8 +125,7 @@ class Documented(unittest.TestCase):
         """They answer over made records, and run over the tables of the crate."""
         queries = queries_of(self.document)
         for version in (1, 2):
-            with tempfile.TemporaryDirectory() as folder, \
-                    opened(make_records(pathlib.Path(folder, "made.db"), version=version)) as made:
+            with opened(make_records(self.folder / f"made-{version}.db", version=version)) as made:
                 insert(made, "events", MORE_EVENTS)
                 made.execute("DELETE FROM registrations")
                 insert(made, "registrations", IN_ORDER)
@@ -143,15 +134,14 @@ class Documented(unittest.TestCase):
                     self.assertEqual(len(self.conn.execute(query).fetchall()), 0, query)
 
 
-class Written(unittest.TestCase):
+class Written(FolderCase):
     """The file of the worked session, read by Python's library."""
 
     @classmethod
     def setUpClass(cls) -> None:
-        folder = tempfile.TemporaryDirectory()
-        cls.addClassCleanup(folder.cleanup)
-        cls.session = Session(program("dmr_trunk"), folder.name)
-        cls.path = pathlib.Path(folder.name, "site.db")
+        folder = cls.enterClassContext(tempfile.TemporaryDirectory())
+        cls.session = Session(folder)
+        cls.path = pathlib.Path(folder, "site.db")
         # the file is also read between two runs
         cls.numbers = [cls.play_and_read(number) for number in range(len(RUNS))]
 
@@ -163,6 +153,7 @@ class Written(unittest.TestCase):
             return [row[0] for row in conn.execute("SELECT number FROM calls")]
 
     def setUp(self) -> None:
+        super().setUp()
         self.conn = sqlite3.connect(self.path)
         self.addCleanup(self.conn.close)
         self.ended_ms = [row[0] for row in self.rows("terms", "ended_ms")]
@@ -219,17 +210,17 @@ class Written(unittest.TestCase):
     def test_archive(self) -> None:
         """The months' files have all rows, and tables of the same version. A second run adds
         nothing."""
-        with tempfile.TemporaryDirectory() as folder:
-            self.run_tool(archive.main, "--folder", folder)
-            self.assertEqual(self.run_tool(archive.main, "--folder", folder), "nothing to do\n")
-            for table in ("terms", "calls", "events", "carriers"):
-                found: set[Columns] = set()
-                for month in pathlib.Path(folder).iterdir():
-                    with opened(month) as conn:
-                        self.assertEqual(conn.execute("SELECT * FROM schema_version").fetchall(),
-                                         self.rows("schema_version"))
-                        found |= set(conn.execute(f"SELECT * FROM {table}"))
-                self.assertEqual(found, set(self.rows(table)), table)
+        words = archive.main, "--folder", str(self.folder)
+        self.run_tool(*words)
+        self.assertEqual(self.run_tool(*words), "nothing to do\n")
+        for table in ("terms", "calls", "events", "carriers"):
+            found: set[Columns] = set()
+            for month in self.folder.iterdir():
+                with opened(month) as conn:
+                    self.assertEqual(conn.execute("SELECT * FROM schema_version").fetchall(),
+                                     self.rows("schema_version"))
+                    found |= set(conn.execute(f"SELECT * FROM {table}"))
+            self.assertEqual(found, set(self.rows(table)), table)
 
     def test_hub(self) -> None:
         """What it counts, of all terms and of the last two."""
@@ -269,7 +260,3 @@ class Written(unittest.TestCase):
             other.executescript(statements_of_tables())
             made, wanted = (it.execute(SCHEMA).fetchall() for it in (self.conn, other))
             self.assertEqual(made, wanted)
-
-
-if __name__ == "__main__":
-    unittest.main()

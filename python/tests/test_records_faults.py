@@ -6,18 +6,14 @@ import resource
 import sqlite3
 import subprocess
 import sys
-import tempfile
 import time
-import unittest
-from collections.abc import Sequence
 from typing import Any
 
 from temzaar.process import Controller
-from temzaar.sitefile import Site
-from tests.made_records import CALLS, EVENTS, REGISTRATIONS, TERMS, insert
-from tests.support import program
-from tests.test_records import SCHEMA, opened, statements_of_first, statements_of_tables
-from tests.worked_session import PATIENCE, Player, site_of, size_of
+from tests.made_records import CALLS, EVENTS, REGISTRATIONS, TERMS, insert, opened
+from tests.served_kit import PATIENCE, ServedCase
+from tests.test_records import SCHEMA, statements_of_first, statements_of_tables
+from tests.worked_session import Player, site_of, size_of
 
 # A program that reads a file of records, and stays connected until its input ends.
 READER = """\
@@ -42,28 +38,16 @@ KILLS, MANY_CALLS = 8, 5000
 MOST_ROWS, REMOVES = 100_000, 101
 
 
-class Served(unittest.TestCase):
+class Served(ServedCase):
     """A controller that is served with a folder for its file of records."""
 
     def setUp(self) -> None:
-        self.built = program("dmr_trunk")
-        folder = tempfile.TemporaryDirectory()
-        self.addCleanup(folder.cleanup)
-        self.folder = folder.name
-        self.path = pathlib.Path(self.folder, "site.db")
+        super().setUp()
+        self.path = self.folder / "site.db"
 
-    def serve(self, site: Site, words: Sequence[str] = (), **options: Any) -> Controller:
-        """The controller, once it listens."""
-        variables = {"STATE_DIRECTORY": self.folder}
-        controller = Controller(self.built, site, words, variables, **options)
-        controller.wait_until_served()
-        return controller
-
-    def run_terms(self, count: int) -> list[str]:
+    def notes_of(self, terms: int) -> list[str]:
         """Serves some terms. What was noted of the records."""
-        with self.serve(site_of(**FAST), ["--terms", str(count)]) as controller:
-            self.assertEqual(controller.process.wait(PATIENCE), 0, controller.notes)
-        return controller.find_in_notes("records: (.*)")
+        return self.run_terms(site_of(**FAST), terms).find_in_notes("records: (.*)")
 
     def make(self, statements: str) -> None:
         """Changes the database by Python's library, or makes one."""
@@ -82,7 +66,7 @@ class Faults(Served):
     def expect_fault(self, fault: str) -> None:
         """The start meets this fault, and so do terms. The bytes of the file stay."""
         before = self.path.read_bytes()
-        self.assertEqual(self.run_terms(2), [NOT_READ + fault, NOT_KEPT + fault])
+        self.assertEqual(self.notes_of(2), [NOT_READ + fault, NOT_KEPT + fault])
         self.assertTrue(self.path.read_bytes() == before)
 
     def test_newer_tables(self) -> None:
@@ -116,7 +100,7 @@ class Faults(Served):
         """The start waits for it for five seconds. The terms of that time are written when it has
         gone. It is a process of its own: this one reads the file's bytes, and to close the file
         then would end all locks that it has on it."""
-        self.run_terms(1)
+        self.notes_of(1)
         fault, words = "another program has the file open", [sys.executable, "-c", READER]
         with subprocess.Popen([*words, str(self.path)], stdin=subprocess.PIPE,
                               stdout=subprocess.PIPE) as reader:
@@ -149,7 +133,7 @@ class Played(Served):
 
         site, before = site_of(**SLOW), limit if from_start else None
         options = {"restore_signals": False, "preexec_fn": before}
-        with self.serve(site, ["--terms", "1"], **options) as controller:
+        with self.serve(site, "--terms", "1", **options) as controller:
             limit(controller.pid)
             player = Player(site)
             for step in CALL:
@@ -181,13 +165,13 @@ class Limits(Played):
     def test_how_many_rows_stay(self) -> None:
         """The newest of each table stay, and all radios. Of three terms the second alone has a
         multiple of 101 as its number, and removes others."""
-        self.run_terms(1)
+        self.notes_of(1)
         terms, calls, events = REMOVES * 991 - 2, MOST_ROWS + 3, MOST_ROWS + 2
-        with opened(self.path) as conn, conn:
+        with opened(self.path) as conn:
             conn.execute("INSERT INTO registrations VALUES (1, 1001)")
             for table, count in (("terms", terms), ("calls", calls), ("events", events)):
                 fill(conn, table, count)
-        self.assertEqual(self.run_terms(3), ["1 radio registered again"])
+        self.assertEqual(self.notes_of(3), ["1 radio registered again"])
         # up to which number rows were removed, and how many are left
         wanted = (("terms", 91, MOST_ROWS + 1, terms + 3), ("calls", 3, MOST_ROWS, calls),
                   ("events", 2, MOST_ROWS, events))
@@ -210,7 +194,7 @@ class CarriedOver(Played):
         """Makes the file, with the made records. `calls` is how many calls it has, if not as many as were made."""
         self.path.unlink(missing_ok=True)
         self.make(statements_of_first())
-        with opened(self.path) as conn, conn:
+        with opened(self.path) as conn:
             insert(conn, "terms", TERMS)
             insert(conn, "events", EVENTS)
             insert(conn, "registrations", REGISTRATIONS)
@@ -265,7 +249,7 @@ class CarriedOver(Played):
         self.assertEqual(calls, [(6, 1001, 91, 0)])
         counts = self.rows("SELECT term, carrier, heard, noise, active FROM carriers ORDER BY 2")
         self.assertEqual(counts, [(4, 0, 0, 0, 0), (4, 1, 2, 0, 0)])
-        self.assertEqual(self.run_terms(1), ["3 radios registered again"])
+        self.assertEqual(self.notes_of(1), ["3 radios registered again"])
         self.assertEqual(self.rows("SELECT max(number) FROM terms"), [(5,)])
         self.expect_version()
 
@@ -300,11 +284,11 @@ class CarriedOver(Played):
     def test_kills(self) -> None:
         """After a kill, at any moment of it, the file has either version, whole. The next start
         carries it over."""
-        versions, site, variables = list[int](), site_of(**SLOW), {"STATE_DIRECTORY": self.folder}
+        versions, site = list[int](), site_of(**SLOW)
         for number in range(KILLS):
             self.make_first(MANY_CALLS)
             self.first = self.contents()
-            with Controller(self.built, site, [], variables) as controller:
+            with Controller(self.built, site, [], self.variables) as controller:
                 self.kill(controller, number)
             self.assertEqual(self.rows("PRAGMA integrity_check"), [("ok",)])
             [(version,)] = self.rows("SELECT * FROM schema_version")
@@ -325,7 +309,3 @@ def fill(conn: sqlite3.Connection, table: str, count: int) -> None:
     conn.execute(f"DELETE FROM {table}")
     conn.execute("WITH RECURSIVE numbers (n) AS (SELECT 1 UNION ALL SELECT n + 1 FROM numbers "
                  f"WHERE n < {count}) INSERT INTO {table} SELECT {', '.join(values)} FROM numbers")
-
-
-if __name__ == "__main__":
-    unittest.main()

@@ -1,17 +1,13 @@
 """Pictures of a file of records: `timeline --records`. The rows are those of `made_records`, in UTC: the site began at 11:59:00, and the records end at 12:02:40."""
-import contextlib
 import os
-import pathlib
 import re
-import sqlite3
-import tempfile
 import unittest
 
 from temzaar.cli.timeline import main
 from temzaar.recordsession import restarts
 from temzaar.records import COUNTS, RecordedTerm
-from tests.made_records import NOON, locked, make_records, zone
-from tests.support import SITES, TWO_CARRIERS, call_tool
+from tests.made_records import NOON, change, make_records, zone
+from tests.support import SITES, TWO_CARRIERS, FolderCase, call_tool
 
 # What a picture of all of the file says of its marks, by their classes.
 TITLES = {
@@ -49,17 +45,13 @@ def bars_of(svg: str) -> dict[str, tuple[float, float]]:
     return {parties: (float(x), float(x) + float(width)) for x, width, parties in found}
 
 
-class RecordsTimeline(unittest.TestCase):
+class RecordsTimeline(FolderCase):
     """A picture of the file."""
 
     def setUp(self) -> None:
-        folder = tempfile.TemporaryDirectory()
-        self.addCleanup(folder.cleanup)
-        self.folder = pathlib.Path(folder.name)
+        super().setUp()
         self.path = make_records(self.folder / "site.db")
-        utc = zone("UTC0")
-        utc.__enter__()
-        self.addCleanup(utc.__exit__, None, None, None)
+        self.enterContext(zone("UTC0"))
 
     def draw(self, *words: str) -> str:
         """The picture that the words ask for."""
@@ -140,11 +132,9 @@ class RecordsTimeline(unittest.TestCase):
         self.assertEqual(len(named.findall(self.draw("--site", str(SITES / "sixteen_carriers.toml")))), 32 + 3)
 
     def test_a_carrier_that_the_site_file_does_not_have(self) -> None:
-        with contextlib.closing(sqlite3.connect(self.path)) as conn, conn:
-            conn.execute("UPDATE calls SET carrier = 7 WHERE number = 1")
+        change(self.path, "UPDATE calls SET carrier = 7 WHERE number = 1")
         self.assertIn("carrier 7 slot 1", self.draw("--site", TWO_CARRIERS))
-        with contextlib.closing(sqlite3.connect(self.path)) as conn, conn:
-            conn.execute("UPDATE calls SET slot = 2 WHERE number = 1")
+        change(self.path, "UPDATE calls SET slot = 2 WHERE number = 1")
         self.assertEqual(call_tool(main, "--records", str(self.path)).stderr, f"timeline: {self.path}: call 1 is on slot 2, and a carrier has slots 0 and 1\n")
 
     def test_times_without_ticks(self) -> None:
@@ -169,20 +159,6 @@ class RecordsTimeline(unittest.TestCase):
             self.assertEqual((done.returncode, done.stdout, done.stderr), (1, "", f"timeline: {said}\n"))
         empty = make_records(self.folder / "empty.db", terms=0)
         self.assertEqual(call_tool(main, "--records", str(empty)).stderr, f"timeline: {empty}: it has no term yet\n")
-        self.assertEqual(call_tool(main, "--records", str(self.folder / "none")).stderr, f"timeline: {self.folder}/none: No such file or directory\n")
-
-    def test_words(self) -> None:
-        for words in (["--calls"], ["--script", "a"], ["--start", "10:00"], ["--program", "a"], ["--page", "1"]):
-            self.assertEqual(call_tool(main, "--records", str(self.path), *words).returncode, 2, words)
-        for words in (["--program", "a"], ["--site", "a", "--printed", "b"], ["--script", "a", "--printed", "b"]):
-            done = call_tool(main, *words)
-            self.assertEqual(done.returncode, 2)
-            self.assertIn("the following arguments are required: --site, --script", done.stderr)
-
-    def test_the_file_is_free_afterwards(self) -> None:
-        self.draw()
-        with locked(self.path):
-            pass
 
 
 class Restarts(unittest.TestCase):
@@ -205,7 +181,3 @@ class Restarts(unittest.TestCase):
             (((1000, 0, 0), (2000, 10, 10)), []),
         ):
             self.assertEqual(list(restarts(self.terms(*rows))), [NOON + it for it in found], rows)
-
-
-if __name__ == "__main__":
-    unittest.main()

@@ -1,7 +1,5 @@
 """The reference in C (reference/): it compiles without a warning, answers each worked case as the controller does, and the soak that plays it finds what is wrong."""
 import contextlib
-import importlib.machinery
-import importlib.util
 import io
 import pathlib
 import re
@@ -9,34 +7,21 @@ import shutil
 import subprocess
 import sys
 import tempfile
-import types
 import unittest
 import unittest.mock
 
 from tests.cases import Case, octets_of, read_cases
-from tests.support import TOP, program
+from tests.support import TOP, FolderCase, load_command, program
 
 REFERENCE = TOP / "reference"
 sys.path.insert(0, str(REFERENCE))
 from plans import plan_of  # noqa: E402  (the path comes first)
 
+soak, wrong_rules = load_command("reference/soak"), load_command("reference/wrong-rules")
 CC = ["cc", "-std=c99", "-pedantic", "-Wall", "-Wextra", "-Werror"]
 FAST, SANITIZERS = ["-O1"], ["-O0", "-g", "-fsanitize=address,undefined", "-fno-sanitize-recover=all"]
 # The tables of rules in docs/SITE_MACHINE.md, in the order of rows.h: the heading, or the line, that each comes after.
 TABLES = ("### A request (C_RAND)", "**Close(r)**", "### A talkgroup request", "### An individual request", "### The called radio's answer")
-
-
-
-def command(name: str) -> types.ModuleType:
-    """A command of the reference, as a module."""
-    loader = importlib.machinery.SourceFileLoader(name.replace("-", "_"), str(REFERENCE / name))
-    module = importlib.util.module_from_spec(importlib.util.spec_from_loader(loader.name, loader))
-    sys.modules[loader.name] = module
-    loader.exec_module(module)
-    return module
-
-
-soak, wrong_rules = command("soak"), command("wrong-rules")
 
 
 def rows_of(text: str, heading: str) -> list[str]:
@@ -56,9 +41,7 @@ class InC(unittest.TestCase):
 
     @classmethod
     def setUpClass(cls) -> None:
-        folder = tempfile.TemporaryDirectory()
-        cls.addClassCleanup(folder.cleanup)
-        cls.folder = pathlib.Path(folder.name)
+        cls.folder = pathlib.Path(cls.enterClassContext(tempfile.TemporaryDirectory()))
         for name, flags in (("replay", FAST), ("soak", SANITIZERS)):
             subprocess.run([*CC, *flags, "-o", str(cls.folder / name), str(REFERENCE / f"{name}.c")], check=True, timeout=100)
 
@@ -94,18 +77,18 @@ class InC(unittest.TestCase):
         self.assertEqual(self.rows()[:len(wanted)], wanted)
 
 
-class WrongRules(unittest.TestCase):
+class WrongRules(FolderCase):
     """The rules that are wrong."""
 
     def test_each_fits(self) -> None:
         rules = list(wrong_rules.read_rules((REFERENCE / "wrong-rules.txt").read_text(encoding="utf-8")))
         self.assertGreaterEqual(len(rules), 30)
         for rule in rules:
-            with self.subTest(rule.name), tempfile.TemporaryDirectory() as folder:
-                shutil.copytree(REFERENCE, folder, dirs_exist_ok=True)
-                wrong_rules.plant(rule, pathlib.Path(folder))
+            with self.subTest(rule.name):
+                shutil.copytree(REFERENCE, self.folder, dirs_exist_ok=True)
+                wrong_rules.plant(rule, self.folder)
                 for file in {file for file, _, _ in rule.changes}:
-                    self.assertNotEqual((pathlib.Path(folder) / file).read_text(encoding="utf-8"), (REFERENCE / file).read_text(encoding="utf-8"))
+                    self.assertNotEqual((self.folder / file).read_text(encoding="utf-8"), (REFERENCE / file).read_text(encoding="utf-8"))
 
 
 class Comparing(unittest.TestCase):
@@ -126,24 +109,20 @@ class Comparing(unittest.TestCase):
 
 
 @unittest.skipUnless(shutil.which("cc"), "it is built with cc, which is not there")
-class OverTheProgram(unittest.TestCase):
+class OverTheProgram(FolderCase):
     """A soak over the proved program, through a program that changes what it prints."""
 
     def setUp(self) -> None:
-        self.program = program("dmr_trunk")
-        folder = tempfile.TemporaryDirectory()
-        self.addCleanup(folder.cleanup)
-        self.built = soak.build(pathlib.Path(folder.name))
+        super().setUp()
+        self.program, self.built = program("dmr_trunk"), soak.build(self.folder)
 
     def soak(self, change: str) -> tuple[int, str, str]:
         """A short soak of the program whose output a command of sed changes: the status, and what it prints."""
         out, fault = io.StringIO(), io.StringIO()
-        with tempfile.TemporaryDirectory() as folder, unittest.mock.patch.object(soak, "build", lambda _: self.built):
-            wrong = pathlib.Path(folder) / "wrong"
-            wrong.write_text(f"#!/bin/sh\n'{self.program}' \"$@\" | sed '{change}'\n", encoding="ascii")
-            wrong.chmod(0o755)
-            with contextlib.redirect_stdout(out), contextlib.redirect_stderr(fault):
-                return soak.main(["--inputs", "4000", "--program", str(wrong)]), out.getvalue(), fault.getvalue()
+        wrong = self.write("wrong", f"#!/bin/sh\n'{self.program}' \"$@\" | sed '{change}'\n")
+        wrong.chmod(0o755)
+        with unittest.mock.patch.object(soak, "build", lambda _: self.built), contextlib.redirect_stdout(out), contextlib.redirect_stderr(fault):
+            return soak.main(["--inputs", "4000", "--program", str(wrong)]), out.getvalue(), fault.getvalue()
 
     def test_each_way(self) -> None:
         """A program that is right; one whose second octet for carrier 9 is another, in the WELCOME that answers the first HELLO; and one with another reply."""

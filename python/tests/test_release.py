@@ -1,19 +1,17 @@
 """How a release is made: its steps, the runs that make it, its record, and its list of components."""
 import hashlib
-import importlib.machinery
-import importlib.util
+import importlib
 import io
 import json
 import pathlib
 import re
 import subprocess
-import sys
-import tempfile
 import unittest
 import unittest.mock
 
-TOP = pathlib.Path(__file__).resolve().parent.parent.parent
-sys.path.insert(0, str(TOP / "ci"))
+from tests.support import TOP, FolderCase, load_command
+
+command = load_command("ci/release")
 steps = importlib.import_module("releasing.steps")
 reached = importlib.import_module("releasing.reached")
 shown = importlib.import_module("progress")
@@ -22,11 +20,6 @@ components = importlib.import_module("releasing.components")
 promises = importlib.import_module("releasing.promises")
 
 SOURCE = record.Source("1.2.3", "0123456789abcdef", "2026-01-02", "d" * 64, 7)
-
-
-loader = importlib.machinery.SourceFileLoader("release", str(TOP / "ci/release"))
-command = importlib.util.module_from_spec(importlib.util.spec_from_loader("release", loader))
-loader.exec_module(command)
 RUN = reached.Run("2026-01-02", ["2 processors", "8 GiB of memory"])
 
 
@@ -35,7 +28,7 @@ def outcome(name: str, status: int | None, last: str = "a last line") -> object:
     return steps.Outcome(steps.Step(name, ["true"], 1), status, 1.0, last)
 
 
-class Steps(unittest.TestCase):
+class Steps(FolderCase):
     """The commands of a release."""
 
     def test_short_run_has_the_same_steps(self) -> None:
@@ -70,21 +63,17 @@ class Steps(unittest.TestCase):
 
     def test_outcomes(self) -> None:
         """A step that fails, one that does not start, and one that passes: their status and their last line."""
-        with tempfile.TemporaryDirectory() as folder:
-            at, log = pathlib.Path(folder), pathlib.Path(folder) / "log.txt"
-            for words, status, last in ((["sh", "-c", "echo first; echo last"], 0, "last"), (["sh", "-c", "echo why >&2; exit 3"], 3, "why"), (["./missing"], 127, "./missing: No such file or directory")):
-                with self.subTest(words):
-                    got = steps.run_step(steps.Step("a step", words, 1), at, log)
-                    self.assertEqual((got.status, got.last), (status, last))
+        for words, status, last in ((["sh", "-c", "echo first; echo last"], 0, "last"), (["sh", "-c", "echo why >&2; exit 3"], 3, "why"), (["./missing"], 127, "./missing: No such file or directory")):
+            with self.subTest(words):
+                got = steps.run_step(steps.Step("a step", words, 1), self.folder, self.folder / "log.txt")
+                self.assertEqual((got.status, got.last), (status, last))
 
 
-class Runs(unittest.TestCase):
+class Runs(FolderCase):
     """A release that several runs make."""
 
     def setUp(self) -> None:
-        room = tempfile.TemporaryDirectory()
-        self.addCleanup(room.cleanup)
-        self.folder = pathlib.Path(room.name)
+        super().setUp()
         (self.folder / "logs").mkdir()
         self.steps = [steps.Step(name, ["sh", "-c", f"echo {name}; test {name} != fails"], 1) for name in ("first", "fails", "last")]
 
@@ -146,37 +135,31 @@ class Runs(unittest.TestCase):
         self.assertEqual((folder / "dmr_trunk").read_text(encoding="ascii"), "dmr_trunk")
 
 
-class Texts(unittest.TestCase):
+class Texts(FolderCase):
     """The texts that commands of the sources print."""
 
     def test_written(self) -> None:
         """Each is what its command prints in the clone. If a command fails, so does the release."""
-        with tempfile.TemporaryDirectory() as room:
-            clone, to = pathlib.Path(room) / "clone", pathlib.Path(room)
-            for name, *_ in command.TEXTS.values():
-                (clone / name).parent.mkdir(parents=True, exist_ok=True)
-                (clone / name).write_text('#!/bin/sh\necho "${0##*/} $*"\n', encoding="ascii")
-                (clone / name).chmod(0o755)
-            command.write_texts(clone, to)
-            self.assertEqual({it: (to / it).read_text(encoding="ascii") for it in command.TEXTS}, {"TRUSTED.txt": "trusted-definitions --sources\n", "CLAUSES.txt": "clauses \n"})
-            (clone / "ci/clauses").write_text("#!/bin/sh\nexit 1\n", encoding="ascii")
-            self.assertRaises(subprocess.CalledProcessError, command.write_texts, clone, to)
+        clone, to = self.folder / "clone", self.folder
+        for name, *_ in command.TEXTS.values():
+            self.write(f"clone/{name}", '#!/bin/sh\necho "${0##*/} $*"\n').chmod(0o755)
+        command.write_texts(clone, to)
+        self.assertEqual({it: (to / it).read_text(encoding="ascii") for it in command.TEXTS}, {"TRUSTED.txt": "trusted-definitions --sources\n", "CLAUSES.txt": "clauses \n"})
+        self.write("clone/ci/clauses", "#!/bin/sh\nexit 1\n")
+        self.assertRaises(subprocess.CalledProcessError, command.write_texts, clone, to)
 
     def test_commands_exist(self) -> None:
         for name, *_ in command.TEXTS.values():
             self.assertTrue((TOP / name).is_file())
 
 
-class Begins(unittest.TestCase):
+class Begins(FolderCase):
     """The folder of a release, at the beginning of a run. The commit is a made one: a checkout may be without git."""
 
     def setUp(self) -> None:
-        room = tempfile.TemporaryDirectory()
-        self.addCleanup(room.cleanup)
-        self.folder = pathlib.Path(room.name) / "release"
-        commit = unittest.mock.patch.object(command, "git", lambda *_: "0ddba11\n")
-        self.addCleanup(commit.stop)
-        commit.start()
+        super().setUp()
+        self.folder = self.folder / "release"
+        self.enterContext(unittest.mock.patch.object(command, "git", lambda *_: "0ddba11\n"))
 
     def test_new_folder(self) -> None:
         """The first run makes the folder, and a later one goes on with it."""
@@ -195,7 +178,7 @@ class Begins(unittest.TestCase):
                 command.begin(self.folder, False, True)
 
 
-class Records(unittest.TestCase):
+class Records(FolderCase):
     """RECORD.md, and the digests."""
 
     def text(self, outcomes: list[object], short: bool = False, more: tuple[object, ...] = (), longer: tuple[object, ...] = ()) -> str:
@@ -229,12 +212,10 @@ class Records(unittest.TestCase):
 
     def test_sums(self) -> None:
         """`sha256sum -c` accepts the digests."""
-        with tempfile.TemporaryDirectory() as folder:
-            at = pathlib.Path(folder)
-            (at / "a").write_bytes(b"octets\n")
-            (at / "SHA256SUMS").write_text(record.sums_of(at, ["a"]), encoding="utf-8")
-            self.assertIn(hashlib.sha256(b"octets\n").hexdigest(), (at / "SHA256SUMS").read_text(encoding="utf-8"))
-            subprocess.run(["sha256sum", "--quiet", "-c", "SHA256SUMS"], cwd=at, check=True)
+        self.write("a", "octets\n")
+        sums = self.write("SHA256SUMS", record.sums_of(self.folder, ["a"]))
+        self.assertIn(hashlib.sha256(b"octets\n").hexdigest(), sums.read_text(encoding="utf-8"))
+        subprocess.run(["sha256sum", "--quiet", "-c", "SHA256SUMS"], cwd=self.folder, check=True)
 
     def test_machine_has_no_name(self) -> None:
         """The record does not name the host."""
@@ -255,7 +236,7 @@ class Version(unittest.TestCase):
             self.assertGreaterEqual([int(it) for it in version.split(".")], [int(it) for it in released[0][0].split(".")])
 
 
-class Components(unittest.TestCase):
+class Components(FolderCase):
     """The list of components."""
 
     def test_crates(self) -> None:
@@ -270,10 +251,11 @@ class Components(unittest.TestCase):
             ("archive ab\ncommit cd\n", ("compiler",), "has no such line"),
             (None, ("archive", "commit", "compiler"), "cannot be read: No such file or directory"),
         ):
-            with self.subTest(text), tempfile.TemporaryDirectory() as folder:
+            with self.subTest(text):
+                (self.folder / "WHAT").unlink(missing_ok=True)
                 if text is not None:
-                    (pathlib.Path(folder) / "WHAT").write_text(text, encoding="ascii")
-                with unittest.mock.patch.multiple(components, ask_rt=lambda *_: f"{folder}/START-HERE.md\n", read_kit=lambda: "kit-1 logic c0ffee"):
+                    self.write("WHAT", text)
+                with unittest.mock.patch.multiple(components, ask_rt=lambda *_: f"{self.folder}/START-HERE.md\n", read_kit=lambda: "kit-1 logic c0ffee"):
                     identity = components.read_identity()
                 wanted = [f"{it} not known: the toolchain's file WHAT {why}" if it in unknown else line for it, line in lines.items()]
                 self.assertEqual(identity, ["kit-1 logic c0ffee", *wanted])
@@ -299,7 +281,3 @@ class Promises(unittest.TestCase):
                 self.assertIn("ensures", it.contract)
                 self.assertNotIn("\n}", it.contract)
                 self.assertTrue(it.says)
-
-
-if __name__ == "__main__":
-    unittest.main()

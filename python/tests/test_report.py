@@ -1,28 +1,23 @@
 """`report`: the traffic of made-up days, whose figures were worked out by hand; its formats, its
 page, and its periods."""
-import contextlib
 import csv
 import json
 import os
-import pathlib
 import re
-import sqlite3
 import stat
-import tempfile
 import time
-import unittest
-from datetime import datetime, timedelta
+from datetime import datetime
 from html.parser import HTMLParser
 
 from temzaar.cli import report as command
 from temzaar.cli.report import read_span, slots_of
-from temzaar.moments import MomentFault, Span, milliseconds_of
+from temzaar.moments import MomentFault, Span
 from temzaar.records import opened_records
 from temzaar.report import Asked, heat_of, heat_text, make_report
 from temzaar.traffic import EARLIER, HOUR_MS, LATER, NOTHING, Traffic, hours_of, read_traffic
 from tests.browser import Chromium, find_chromium
-from tests.made_records import NOON, TERMS, insert, make_records, zone
-from tests.support import TWO_CARRIERS, call_tool
+from tests.made_records import NOON, TERMS, change, insert, make_records, opened, zone
+from tests.support import TWO_CARRIERS, FolderCase, call_tool
 
 MINUTE, TICK = 60_000, 60
 # The day in UTC, 2026-11-27.
@@ -121,23 +116,19 @@ class Page(HTMLParser):
             self.cells[self.section][-1] = (tag, kind, text + data)
 
 
-class ReportCase(unittest.TestCase):
+class ReportCase(FolderCase):
     """A test with the file of the day, in UTC."""
 
     def setUp(self) -> None:
-        folder = tempfile.TemporaryDirectory()
-        self.addCleanup(folder.cleanup)
-        self.folder = pathlib.Path(folder.name)
+        super().setUp()
         self.path = self.folder / "site.db"
-        utc = zone("UTC0")
-        utc.__enter__()
-        self.addCleanup(utc.__exit__, None, None, None)
+        self.enterContext(zone("UTC0"))
 
     def make(self, terms: tuple[tuple[int, ...], ...], calls: tuple[tuple[object, ...], ...] = (),
              events: tuple[tuple[object, ...], ...] = (), version: int = 2) -> None:
         """Makes the file."""
         make_records(self.path, terms=0, version=version)
-        with contextlib.closing(sqlite3.connect(self.path)) as conn, conn:
+        with opened(self.path) as conn:
             conn.execute("DELETE FROM registrations")
             insert(conn, "registrations", tuple(enumerate(REGISTERED, 1)))
             insert(conn, "terms", terms)
@@ -271,8 +262,7 @@ class NotKnown(ReportCase):
         self.assertEqual(found["outages"], {"2026-11-27 10:45:00": ["2026-11-27 10:50:00", "1", "5.0", "the controller was started again"]})
         self.assertIn("not recorded       30 min 0 s\n", self.run_tool())
         # the first 500 ticks of that run are not recorded
-        with contextlib.closing(sqlite3.connect(self.path)) as conn, conn:
-            conn.execute("UPDATE terms SET last_tick = last_tick + 500 WHERE number = 2")
+        change(self.path, "UPDATE terms SET last_tick = last_tick + 500 WHERE number = 2")
         self.assertEqual([it.from_ms for it in self.traffic().outages], [at("10:45")])
 
     def test_the_ends_of_the_records(self) -> None:
@@ -289,7 +279,7 @@ class NotKnown(ReportCase):
         """The file has the calls from number 2 on: before that one ended, others may have been active.
         It has the events from 9:05 on."""
         self.make_day()
-        with contextlib.closing(sqlite3.connect(self.path)) as conn, conn:
+        with opened(self.path) as conn:
             conn.execute("CREATE TABLE removed (calls INTEGER, events INTEGER, terms INTEGER) STRICT")
             for calls, events, first, earliest in ((0, 0, None, 0), (-5, None, None, 0), (1, 5, at("8:20"), at("9:05"))):
                 conn.execute("DELETE FROM removed")
@@ -320,8 +310,7 @@ class NotKnown(ReportCase):
 
     def test_a_damaged_row(self) -> None:
         self.make_day()
-        with contextlib.closing(sqlite3.connect(self.path)) as conn, conn:
-            conn.execute("UPDATE events SET carrier = 16 WHERE number = 9")
+        change(self.path, "UPDATE events SET carrier = 16 WHERE number = 9")
         done = call_tool(command.main, "--records", str(self.path), "--from", "2026-11-27")
         self.assertEqual((done.returncode, done.stdout, done.stderr), (1, "", f"report: {self.path}: events, row 9: carrier is 16\n"))
 
@@ -410,8 +399,7 @@ class OnThePage(ReportCase):
     def test_names(self) -> None:
         """They are next to their numbers, and are text alone."""
         self.make_day()
-        names = self.folder / "names.csv"
-        names.write_text("radio,1002,<b>&\"\ntalkgroup,91,Aaaaaaaaaaaaaaaaaaaaaaaaaaaaaaaaaaaaaaaa\ncarrier,1,=Mast\nradio,1006,Depot\n", encoding="utf-8")
+        names = self.write("names.csv", "radio,1002,<b>&\"\ntalkgroup,91,Aaaaaaaaaaaaaaaaaaaaaaaaaaaaaaaaaaaaaaaa\ncarrier,1,=Mast\nradio,1006,Depot\n")
         page, text = self.page("--names", str(names), "--slots", "3")
         self.assertIn(("td", "", '<b>&"'), page.cells["radios"])
         self.assertIn(("td", "", "A" + 39 * "a"), page.cells["talkgroups"])
@@ -439,10 +427,6 @@ class OnThePage(ReportCase):
             done = call_tool(command.main, "--records", str(self.path), "--out", path)
             self.assertEqual((done.returncode, done.stderr), (1, f"report: {path}: {said}\n"))
 
-    def test_words(self) -> None:
-        for words in (("--slots", "0"), ("--slots", "32"), ("--slots", "3", "--site", TWO_CARRIERS), ("--out", "x", "--format", "csv"), ("--limit", "0"), ("--format", "html")):
-            self.assertEqual(call_tool(command.main, *words).returncode, 2, words)
-
 
 class InABrowser(ReportCase):
     """The page as Chromium shows it."""
@@ -451,8 +435,7 @@ class InABrowser(ReportCase):
         """It fits from a phone to a wide screen, also with long names, and asks for nothing but
         itself."""
         self.make_day()
-        names = self.folder / "names.csv"
-        names.write_text("".join(f"{kind},{'W' * 40}\n" for kind in ("radio,1001", "radio,1006", "talkgroup,91", "carrier,1")), encoding="utf-8")
+        names = self.write("names.csv", "".join(f"{kind},{'W' * 40}\n" for kind in ("radio,1001", "radio,1006", "talkgroup,91", "carrier,1")))
         self.page("--names", str(names), "--slots", "3")
         browser = Chromium(find_chromium())
         self.addCleanup(browser.close)
@@ -483,7 +466,3 @@ class Large(ReportCase):
         self.assertEqual((traffic.calls, round(traffic.used_ms / traffic.recorded_ms, 3), traffic.gaps), (100_000, 0.248, []))
         # waits of 34 to 49 of each 50 ticks are longer than 2 s
         self.assertIn(("longer than 2 s", "32.0%"), report.facts)
-
-
-if __name__ == "__main__":
-    unittest.main()

@@ -1,14 +1,10 @@
 """The checks of `trials/restart`, over made files of records and made plays: what is right passes, and each thing that is wrong has its fault."""
-import contextlib
 import dataclasses
-import pathlib
-import sqlite3
 import sys
-import tempfile
 import unittest
 
-from tests.made_records import CALLS, NOON, REGISTRATIONS, make_records
-from tests.support import TOP
+from tests.made_records import CALLS, NOON, REGISTRATIONS, change, make_records
+from tests.support import TOP, FolderCase
 
 sys.path.insert(0, str(TOP / "trials"))
 from restart_checks import Change, Contents, PlayedCall, call_faults, file_faults, kept_faults, read_contents, registration_faults  # noqa: E402  (the path comes first)
@@ -17,20 +13,18 @@ from restart_checks import Change, Contents, PlayedCall, call_faults, file_fault
 UNTIL, BEFORE, AFTER = NOON, NOON - 500, NOON + 500
 
 
-class Files(unittest.TestCase):
+class Files(FolderCase):
     """A file in itself, and compared with what it was."""
 
     def setUp(self) -> None:
-        folder = tempfile.TemporaryDirectory()
-        self.addCleanup(folder.cleanup)
-        self.path = make_records(pathlib.Path(folder.name) / "site.db")
+        super().setUp()
+        self.path = make_records(self.folder / "site.db")
         # in the third term one call ended, in the first two two each
         self.contents = read_contents(str(self.path))
 
-    def changed(self, statements: str) -> Contents:
+    def changed(self, statement: str) -> Contents:
         """What the file has after a change."""
-        with contextlib.closing(sqlite3.connect(self.path)) as conn:
-            conn.executescript(statements)
+        change(self.path, statement)
         return read_contents(str(self.path))
 
     def test_what_is_right(self) -> None:
@@ -97,13 +91,12 @@ class Registrations(unittest.TestCase):
             self.assertEqual(self.faults(found, [1, 2], *changes), [fault])
 
 
-class Calls(unittest.TestCase):
+class Calls(FolderCase):
     """The records of calls, by the calls that a player saw: grants a tick after the beginning, P_CLEARs a tick after the end."""
 
     def setUp(self) -> None:
-        folder = tempfile.TemporaryDirectory()
-        self.addCleanup(folder.cleanup)
-        self.recorded = read_contents(str(make_records(pathlib.Path(folder.name) / "site.db"))).calls
+        super().setUp()
+        self.recorded = read_contents(str(make_records(self.folder / "site.db"))).calls
         self.played = [PlayedCall(bool(row[4]), int(row[5]), int(row[6]), int(row[2]), int(row[3]), int(row[9]) + 60, int(row[10]) + 60) for row in CALLS]
         self.until = NOON + 160_000
 
@@ -132,7 +125,3 @@ class Calls(unittest.TestCase):
                                 (later, first + "by the record it began 2940 ms after the player saw that")):
             self.assertEqual(call_faults(recorded, self.played, self.until), [fault])
         self.assertEqual(call_faults(self.recorded, self.played[1:], self.until), [first + "1 records, and the player saw 0, of which 0 ended before the last term"])
-
-
-if __name__ == "__main__":
-    unittest.main()

@@ -9,12 +9,11 @@ import shlex
 import socket
 import subprocess
 import sys
-import tempfile
 import threading
 import time
-import unittest
 from collections import deque
-from collections.abc import Callable, Iterator
+from collections.abc import Callable
+from typing import Any
 from unittest import mock
 
 from temzaar import code, pdus
@@ -23,27 +22,23 @@ from temzaar.console import Console, Status
 from temzaar.frames import POLL, hello, rx
 from temzaar.hubconsole import VARIABLE
 from temzaar.picture import take_picture
-from temzaar.plannedstop import MOST_NAMED, Seen, lost_lines, named
+from temzaar.plannedstop import MOST_NAMED, Seen, lost_lines, named, wait_for_term
 from temzaar.process import Controller
-from temzaar.sitefile import FREE_PORTS, Site
+from temzaar.records import RecordedTerm
+from temzaar.sitefile import Site
 from tests.fake_console import FakeConsole
 from tests.hub_support import HubCase
 from tests.made_records import add_term, locked, make_records
-from tests.support import TOP, TWO_CARRIERS, call_tool, program, tool_words
+from tests.served_kit import PATIENCE, free_site
+from tests.support import TOP, TWO_CARRIERS, FolderCase, call_tool, program, tool_words, wait_until
 from tests.test_siteview import Written
 
 FAKE = str(TOP / "python" / "tests" / "fake_controller.py")
 # A command that asks a port of the test for a restart, and ends when that was done.
 ASK = "import socket, sys; sys.exit(int(socket.create_connection(('127.0.0.1', {})).recv(9) or 9))"
-PATIENCE = 60
-
-
-def wait_until(condition: Callable[[], object]) -> None:
-    """Waits until a condition holds. AssertionError: it does not in time."""
-    until = time.monotonic() + PATIENCE
-    while not condition():
-        assert time.monotonic() < until, "it did not come in time"
-        time.sleep(0.02)
+# What the console answers of a site without calls; and of slots, if carrier 1 is down.
+QUIET = {"slots": ["slot 0 0 control", "slot 0 1 free", "slot 1 0 free", "slot 1 1 free", "end"], "lines 1": ["end"]}
+ONE_DOWN = ["slot 0 0 control", "slot 0 1 free", "slot 1 0 down", "slot 1 1 down", "end"]
 
 
 class Restarter:
@@ -100,16 +95,12 @@ class BaseStation:
         self.thread.join(PATIENCE)
 
 
-class RestartCase(unittest.TestCase):
+class RestartCase(FolderCase):
     """A test with a folder, and without the hub of this machine."""
 
     def setUp(self) -> None:
-        holder = tempfile.TemporaryDirectory()
-        self.addCleanup(holder.cleanup)
-        self.folder = pathlib.Path(holder.name)
-        patch = mock.patch.dict(os.environ, {VARIABLE: str(self.folder / "no-hub")})
-        patch.start()
-        self.addCleanup(patch.stop)
+        super().setUp()
+        self.enterContext(mock.patch.dict(os.environ, {VARIABLE: str(self.folder / "no-hub")}))
         self.path, self.records = self.folder / "site.toml", self.folder / "site.db"
 
     def restarter(self, action: Callable[[], None] = lambda: None, status: int = 0) -> Restarter:
@@ -129,8 +120,8 @@ class Served(RestartCase):
     def setUp(self) -> None:
         super().setUp()
         self.built = program("dmr_trunk")
-        self.site = Site(TWO_CARRIERS, first_port=FREE_PORTS, tick_ms=10, term_entries=50, hang=60000, maximum=65535)
-        self.path.write_text(self.site.text(), encoding="utf-8")
+        self.site = free_site(tick_ms=10, term_entries=50, hang=60000, maximum=65535)
+        self.write("site.toml", self.site.text())
         self.serve()
         self.addCleanup(lambda: self.controller.stop())
         self.stations = [BaseStation(self.site, row["number"]) for row in self.site.rows]
@@ -183,7 +174,7 @@ class Served(RestartCase):
 
     def test_a_site_file_that_is_refused(self) -> None:
         command = self.restarter(self.start_again)
-        self.path.write_text(self.site.text().replace("hang = 60000", "hang = 0"), encoding="utf-8")
+        self.write("site.toml", self.site.text().replace("hang = 60000", "hang = 0"))
         done = self.run_tool(command.command, controller=self.built)
         self.assertEqual((done.returncode, done.stdout, command.runs), (1, "", 0))
         self.assertRegex(done.stderr, r"^restart: nothing was restarted: .*site\.toml: .* refuses it: dmr_trunk: site file: out of range hang; dmr_check shows the place\n$")
@@ -193,7 +184,7 @@ class Served(RestartCase):
         self.begin_call()
         self.site.plan["groups"] = [*self.site.plan["groups"], 95]
         self.site.plan["radios"] = [[1002, 1999]]
-        self.path.write_text(self.site.text(), encoding="utf-8")
+        self.write("site.toml", self.site.text())
         done = self.run_tool(self.restarter(self.start_again).command, controller=self.built)
         self.assertEqual((done.returncode, done.stderr), (0, ""))
         self.assertIn("radios: 2 registered before, 1 now; no longer in the site file: 1001\n", done.stdout)
@@ -206,26 +197,16 @@ class Answered(RestartCase):
         super().setUp()
         self.fake = FakeConsole()
         self.addCleanup(lambda: self.fake.stop())
-        site = Site(TWO_CARRIERS, first_port=FREE_PORTS)
+        site = free_site()
         site.plan["console_port"] = self.fake.port
-        self.path.write_text(site.text(), encoding="utf-8")
+        self.write("site.toml", site.text())
         make_records(self.records, terms=1)
 
     def start_again(self, **replies: list[str]) -> None:
         """The console ends, and another one listens on its port, without calls."""
         self.fake.stop()
         self.fake = FakeConsole(self.fake.port)
-        self.fake.replies |= {"slots": ["slot 0 0 control", "slot 0 1 free", "slot 1 0 free", "slot 1 1 free", "end"], "lines 1": ["end"], **replies}
-
-    @contextlib.contextmanager
-    def term_ends(self, seconds: float = 0.5) -> Iterator[None]:
-        """A term is recorded after a time."""
-        timer = threading.Timer(seconds, add_term, (self.records, 2))
-        timer.start()
-        try:
-            yield
-        finally:
-            timer.join()
+        self.fake.replies |= {**QUIET, **replies}
 
     def test_what_is_lost(self) -> None:
         """Two calls and a request; radios that do not come back are named."""
@@ -233,7 +214,12 @@ class Answered(RestartCase):
             self.start_again()
             self.fake.radios -= {1003, 1040}
 
-        with self.term_ends():
+        def wait(*words: Any) -> RecordedTerm | None:
+            """Waits as the tool does; meanwhile a term is recorded."""
+            threading.Timer(0.3, add_term, (self.records, 2)).start()
+            return wait_for_term(*words)
+
+        with mock.patch.object(restart, "wait_for_term", wait):
             done = self.run_tool(self.restarter(without_two).command)
         self.assertEqual((done.returncode, done.stderr), (3, ""))
         self.assertIn("lost: 2 calls, 1 request in the queue\n  call 0/1 group 91 from 1001\n  call 1/0 radio 1002 from 1003\n  request group 94 from 1004\n", done.stdout)
@@ -242,7 +228,7 @@ class Answered(RestartCase):
 
     def test_a_carrier_that_stays_away(self) -> None:
         """Without waiting for a term; the status says that not all is back."""
-        command = self.restarter(lambda: self.start_again(slots=["slot 0 0 control", "slot 0 1 free", "slot 1 0 down", "slot 1 1 down", "end"]))
+        command = self.restarter(lambda: self.start_again(slots=ONE_DOWN))
         done = self.run_tool(command.command, "--now", "--back", "0.5")
         self.assertEqual((done.returncode, done.stderr), (3, ""))
         self.assertIn("carriers: 2 up before, 1 now; not back: 1\nradios: 40 registered before, 40 now\n", done.stdout)
@@ -329,8 +315,8 @@ class Answered(RestartCase):
 
             def back() -> None:
                 self.fake = FakeConsole(port)
-                self.fake.replies |= {"slots": ["slot 0 0 control", "slot 0 1 free", "slot 1 0 down", "slot 1 1 down", "end"], "lines 1": ["end"]}
-                threading.Timer(0.5, lambda: self.fake.replies.update(slots=["slot 0 0 control", "slot 0 1 free", "slot 1 0 free", "slot 1 1 free", "end"])).start()
+                self.fake.replies |= {**QUIET, "slots": ONE_DOWN}
+                threading.Timer(0.5, lambda: self.fake.replies.update(QUIET)).start()
 
             threading.Timer(0.5, back).start()
 
@@ -341,7 +327,7 @@ class Answered(RestartCase):
         self.assertGreaterEqual(last, answered + 0.4)
 
     def test_words(self) -> None:
-        for command, said in (("'", "argument --command: No closing quotation"), ("  ", "there is no word in it"), ("", "the word is empty")):
+        for command, said in (("'", "argument --command: No closing quotation"), ("  ", "there is no word in it")):
             done = self.run_tool(command)
             self.assertEqual((done.returncode, done.stdout), (2, ""))
             self.assertIn(said, done.stderr)
@@ -368,7 +354,7 @@ class ThroughTheHub(HubCase):
         def start_again() -> None:
             self.fake.stop()
             self.fake = FakeConsole(self.fake.port)
-            self.fake.replies |= {"slots": ["slot 0 0 control", "slot 0 1 free", "slot 1 0 free", "slot 1 1 free", "end"], "lines 1": ["end"]}
+            self.fake.replies |= QUIET
 
         command = Restarter(start_again)
         self.addCleanup(command.close)
@@ -376,7 +362,3 @@ class ThroughTheHub(HubCase):
         done = await asyncio.to_thread(subprocess.run, words, capture_output=True, text=True, check=False, timeout=PATIENCE)
         self.assertEqual((done.returncode, done.stderr), (0, ""))
         self.assertIn("radios: 40 registered before, 40 now\n", done.stdout)
-
-
-if __name__ == "__main__":
-    unittest.main()

@@ -2,16 +2,15 @@
 import os
 import socket
 import subprocess
-import tempfile
 import threading
 import unittest
 
-from temzaar import code
-from temzaar.frames import DONE, POLL, TO_CARRIER, Cutter, FrameType, Link, hello, welcome
-from temzaar.process import Controller, connect
+from temzaar.frames import POLL, FrameType
+from temzaar.process import connect
 from temzaar.script import Input, read_script
-from temzaar.sitefile import FREE_PORTS, Row, Site
-from tests.support import EXAMPLES, SITES, TOP, TWO_CARRIERS, program, run_tool
+from temzaar.sitefile import Site
+from tests.served_kit import ACKNOWLEDGED, REGISTRATION, Carrier, free_site, received, served
+from tests.support import EXAMPLES, SITES, TOP, TWO_CARRIERS, FolderCase, program, run_tool
 
 # what siteview shows once the first 19 inputs of queued_call.txt have come: three calls, and a request that waits
 SHOWN = """\
@@ -25,21 +24,6 @@ waiting for a slot
    1     group 94 from 1004
 """
 
-# a HELLO of carrier 0, the burst of radio 1001's registration on slot 0, and a POLL
-REGISTRATION = bytes.fromhex("010401000001 021A000EB49CDF34F2749CECBA5CB3B7C40E88138C9A38F96248E180 0300")
-# WELCOME, the burst of the acknowledgement, and DONE
-ACKNOWLEDGED = bytes.fromhex("810101 821A0041C3028A48FC8F403DC06F00EDA0F783E497542E405CB83CB0 8300")
-
-
-def register_radio(site: Site) -> bytes:
-    """Registers the radio of REGISTRATION. What the control carrier receives."""
-    with connect(site.address, site.row(0)["port"]) as stream:
-        stream.sendall(REGISTRATION)
-        answer = b""
-        while len(answer) < len(ACKNOWLEDGED) and (piece := stream.recv(4096)):
-            answer += piece
-        return answer
-
 
 class Pictures(unittest.TestCase):
     """The pictures of the documents."""
@@ -52,53 +36,72 @@ class Pictures(unittest.TestCase):
             self.assertTrue(done.stdout == wanted, f"{name}.svg is another picture (make pictures) {done.stderr}")
 
 
-class Listening(unittest.TestCase):
+class Listening(FolderCase):
     """The address on which a served site listens, and what the program reports if it cannot listen there."""
 
     # an address of the loopback network that is not the one that a site file without `address` means
     OTHER = "127.0.0.2"
 
-    def exchange(self, stream: socket.socket, octets: bytes) -> bytes:
-        """Sends octets and then ends the input. All octets that come back, up to the end of the connection."""
-        stream.sendall(octets)
-        stream.shutdown(socket.SHUT_WR)
-        answer = b""
-        while piece := stream.recv(4096):
-            answer += piece
-        return answer
-
     def test_a_registration_is_acknowledged(self) -> None:
         """A site is served at the address of its site file, and not at 127.0.0.1. After one term the program ends with status 0."""
-        site = Site(TWO_CARRIERS, first_port=FREE_PORTS, address=[int(it) for it in self.OTHER.split(".")], tick_ms=10, term_entries=1000)
+        site = free_site(address=[int(it) for it in self.OTHER.split(".")], tick_ms=10, term_entries=1000)
         port = site.row(0)["port"]
-        with Controller(program("dmr_trunk"), site, ["--terms", "1"]) as controller:
-            controller.wait_until_served()
+        with served(site, "--terms", "1") as controller:
             with connect(self.OTHER, port) as stream:
                 with self.assertRaises(ConnectionRefusedError):
                     socket.create_connection(("127.0.0.1", port))
-                self.assertEqual(self.exchange(stream, REGISTRATION), ACKNOWLEDGED)
+                stream.sendall(REGISTRATION)
+                stream.shutdown(socket.SHUT_WR)
+                self.assertEqual(received(stream), ACKNOWLEDGED)
             self.assertEqual(controller.process.wait(60), 0, controller.notes)
 
     def test_a_port_that_is_taken(self) -> None:
         """A note has the system's reason, the text names the port, the status is 1, and nothing is served."""
-        built, site = program("dmr_trunk"), Site(TWO_CARRIERS, first_port=FREE_PORTS)
-        port = site.row(1)["port"]
-        with tempfile.TemporaryDirectory() as folder, socket.create_server(("127.0.0.1", port)):
-            path = os.path.join(folder, "site.toml")
-            with open(path, "w", encoding="utf-8") as it:
-                it.write(site.text())
-            done = subprocess.run([built, "--site", path, "--serve", "--terms", "1"], capture_output=True, text=True, check=False, timeout=60)
+        site = free_site()
+        port, path = site.row(1)["port"], self.write("site.toml", site.text())
+        with socket.create_server(("127.0.0.1", port)):
+            done = subprocess.run([program("dmr_trunk"), "--site", path, "--serve", "--terms", "1"], capture_output=True, text=True, check=False, timeout=60)
         reason = f"[WARN  dmr_trunk] carrier 1: cannot listen on 127.0.0.1:{port}: Address already in use (os error 98)"
         self.assertEqual((done.returncode, done.stdout, done.stderr.splitlines()[1:]), (1, "", [reason, f"dmr_trunk: cannot listen on port {port}"]), done.stderr)
+
+
+class JournalLevel(FolderCase):
+    """The notes of a controller whose standard error is a stream of systemd's journal. Its console's port is taken: it notes its start, and then a warning."""
+
+    def setUp(self) -> None:
+        super().setUp()
+        self.built, site = program("dmr_trunk"), free_site()
+        self.path = self.write("site.toml", site.text())
+        self.enterContext(socket.create_server((site.address, site.console_port)))
+
+    def notes(self, stream: str | None) -> list[str]:
+        """The notes, up to the name of what they are about. `stream` is the variable's value, in which `STREAM` is replaced by the stream of standard error."""
+        reader, writer = os.pipe()
+        state = os.fstat(writer)
+        variables = {} if stream is None else {"JOURNAL_STREAM": stream.replace("STREAM", f"{state.st_dev}:{state.st_ino}")}
+        with open(reader, encoding="utf-8") as notes:
+            done = subprocess.Popen([self.built, "--site", str(self.path), "--serve"], stderr=writer, env=variables)
+            os.close(writer)
+            lines = notes.read().splitlines()
+            self.assertEqual(done.wait(60), 1)
+        return [line.partition("dmr_trunk")[0] for line in lines if not line.startswith("dmr_trunk: ")]
+
+    def test_a_warning_has_its_level(self) -> None:
+        self.assertEqual(self.notes("STREAM"), ["[INFO  ", "<4>[WARN  "])
+
+    def test_another_stream(self) -> None:
+        """A program that a service starts has the variable too, though its standard error may be another stream."""
+        for stream in (None, "", "1:2", "STREAM:", "STREAM0", "x:y"):
+            with self.subTest(stream):
+                self.assertEqual(self.notes(stream), ["[INFO  ", "[WARN  "])
 
 
 class View(unittest.TestCase):
     """A site in a known state, as siteview shows it."""
 
     def test_queued_call(self) -> None:
-        site = Site(TWO_CARRIERS, first_port=FREE_PORTS, hang=60000, maximum=60000)
-        with Controller(program("dmr_trunk"), site) as controller:
-            controller.wait_until_served()
+        site = free_site(hang=60000, maximum=60000)
+        with served(site):
             inputs = read_script((EXAMPLES / "scripts" / "queued_call.txt").read_text(encoding="utf-8"))
             streams = self.feed(site, inputs[:next(n for n, it in enumerate(inputs) if it.kind == "tick")])
             done = run_tool("siteview", "--console", f"127.0.0.1:{site.console_port}", "--once")
@@ -119,7 +122,7 @@ class View(unittest.TestCase):
         return streams
 
 
-class Played(unittest.TestCase):
+class Played(FolderCase):
     """Carriers and radios, for some seconds in each version of the link."""
 
     def test_all_is_answered_right(self) -> None:
@@ -129,15 +132,11 @@ class Played(unittest.TestCase):
                             "--link-version", version)
             self.assertEqual(done.returncode, 0, done.stdout + done.stderr)
 
-
     def test_beside_another_client(self) -> None:
         """The control carrier is played while another client serves the other carrier, to which its P_CLEARs go: the slots there are not judged."""
-        site, ends = Site(TWO_CARRIERS, first_port=FREE_PORTS, hang=5), threading.Event()
-        with tempfile.TemporaryDirectory() as folder, Controller(program("dmr_trunk"), site) as controller:
-            path = os.path.join(folder, "site.toml")
-            with open(path, "w", encoding="utf-8") as it:
-                it.write(site.text())
-            controller.wait_until_served()
+        site, ends = free_site(hang=5), threading.Event()
+        path = str(self.write("site.toml", site.text()))
+        with served(site):
             other, cleared = Carrier(site.row(1), 1), []
 
             def poll() -> None:
@@ -156,25 +155,3 @@ class Played(unittest.TestCase):
             other.stream.close()
         self.assertEqual(done.returncode, 0, done.stdout + done.stderr)
         self.assertGreater(len(cleared), 2)
-
-
-class Carrier:
-    """A carrier that polls, and what it received."""
-
-    def __init__(self, row: Row, version: int) -> None:
-        self.number, self.received, self.stream = row["number"], b"", connect("127.0.0.1", row["port"])
-        self.link, self.cutter = Link(version), Cutter(TO_CARRIER)
-        self.ask(hello(row["number"], row["lpcn"], version), welcome(version))
-
-    def ask(self, octets: bytes, end: bytes = DONE) -> list[bytes]:
-        """Sends octets and reads on to the end of the answer. The PDUs that came."""
-        self.stream.sendall(octets)
-        answer = b""
-        while not answer.endswith(end):
-            piece = self.stream.recv(65536)
-            if not piece:
-                raise ConnectionError(f"the controller ended the connection of carrier {self.number}")
-            answer += piece
-        self.received += answer
-        bursts = [self.link.take_tx(frame) for frame in self.cutter.feed(answer) if frame.kind == FrameType.TX]
-        return [code.octets_of(burst.word) or b"" for burst in bursts if burst]

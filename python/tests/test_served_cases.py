@@ -10,11 +10,11 @@ import unittest
 from collections.abc import Iterator
 
 from temzaar.console import LISTS
-from temzaar.process import Controller, connect
+from temzaar.process import connect
 from temzaar.script import Input, Session, read_printed, read_script
-from temzaar.sitefile import FREE_PORTS, Site
+from temzaar.sitefile import Site
+from tests import served_kit
 from tests.cases import Case, octets_of, read_cases
-from tests.support import program
 
 # The longest tick of a site file, and how often a case is tried whose run took longer, on a machine that stalls.
 TICK_MS, TRIES = 1000, 8
@@ -26,6 +26,11 @@ def inputs_of(case: Case) -> list[Input]:
     return read_script(octets_of(case.script or "").decode())
 
 
+def octets_left(session: Session, carrier: int) -> int:
+    """How many octets of what goes to a carrier answer none of the inputs so far."""
+    return sum(len(it.octets()) for it in session.frames[carrier])
+
+
 def is_in_order(case: Case) -> bool:
     """Whether the inputs of a case keep their order over TCP: what nothing answers is followed by the same carrier's octets, or is the end."""
     inputs = inputs_of(case)
@@ -34,10 +39,10 @@ def is_in_order(case: Case) -> bool:
     for index, it in enumerate(inputs):
         if it.kind == "tick" or (it.carrier >= 0 and it.carrier not in carriers) or (it.kind == "text" and it.octets[-1:] != b"\n"):
             return False
-        was_open = it.kind == "bytes" and session.is_open(it.carrier)
-        before = session.octets_left(it.carrier) if it.kind == "bytes" else 0
+        was_open = it.kind == "bytes" and it.carrier in session.cutters
+        before = octets_left(session, it.carrier) if it.kind == "bytes" else 0
         session.take(it)
-        unanswered = was_open and session.is_open(it.carrier) and session.octets_left(it.carrier) == before
+        unanswered = was_open and it.carrier in session.cutters and octets_left(session, it.carrier) == before
         if unanswered and index + 1 < len(inputs) and (inputs[index + 1].kind, inputs[index + 1].carrier) != ("bytes", it.carrier):
             return False
     return True
@@ -82,10 +87,10 @@ class Players:
         """Sends octets of a carrier, and receives what answers them. A connection that ends is read to its end."""
         stream = self.streams[it.carrier]
         stream.sendall(it.octets)
-        wanted = self.total[it.carrier] - self.session.octets_left(it.carrier)
+        wanted = self.total[it.carrier] - octets_left(self.session, it.carrier)
         while len(self.received[it.carrier]) < wanted and (piece := stream.recv(4096)):
             self.received[it.carrier] += piece
-        if not self.session.is_open(it.carrier):
+        if it.carrier not in self.session.cutters:
             self.end(it.carrier, was_up)
 
     def end(self, carrier: int, was_up: bool) -> None:
@@ -130,16 +135,15 @@ class Players:
         return reply
 
 
-def served(built: str, case: Case) -> tuple[str, float]:
+def served(case: Case) -> tuple[str, float]:
     """What comes of a case over TCP, in the form of a replay, and the seconds since the controller listened."""
     with tempfile.NamedTemporaryFile("w", suffix=".toml", encoding="utf-8") as file:
         file.write(octets_of(case.site or "").decode())
         file.flush()
-        site = Site(file.name, first_port=FREE_PORTS, tick_ms=TICK_MS, silence=600)
+        site = served_kit.free_site(file.name, tick_ms=TICK_MS, silence=600)
     carriers, _ = read_printed(case.printed)
     began = time.monotonic()
-    with Controller(built, site) as controller:
-        controller.wait_until_served()
+    with served_kit.served(site):
         players = Players(site, carriers)
         try:
             for it in inputs_of(case):
@@ -159,13 +163,13 @@ class Served(unittest.TestCase):
     """What the served program answers."""
 
     def test_each_case(self) -> None:
-        built, taken = program("dmr_trunk"), list(cases())
+        taken = list(cases())
         self.assertGreaterEqual(len(taken), 60)
         for case in taken:
             with self.subTest(case.full_name):
-                found, seconds = served(built, case)
+                found, seconds = served(case)
                 for _ in range(TRIES):
                     if seconds < TICK_MS / 1000:
                         break
-                    found, seconds = served(built, case)
+                    found, seconds = served(case)
                 self.assertEqual(found, case.printed)

@@ -1,17 +1,18 @@
 """docs/SITE_FILE.md, run: its key table and its texts, and the example that it names, over the controller."""
 import os
+import pathlib
 import re
 import subprocess
-import tempfile
 import tomllib
 import unittest
 from collections.abc import Iterator
 
-from tests.support import TOP, TWO_CARRIERS, program, read_document, table_rows
+from tests.support import TOP, TWO_CARRIERS, FolderCase, program, read_document, table_rows
 
 SITE_FILE = read_document("SITE_FILE.md")
 ARRAYS = ("address", "radios", "groups", "carrier")
 NO_CARRIER = 15
+MIB = 1 << 20
 # Tests and programs that cannot read a file: their `SITE` is the text of one.
 SITES_IN_CRATES = ("test_program/src/refusals/calls.rt", "test_stories/src/site_file.rt", "test_trials/src/site.rt")
 
@@ -57,28 +58,15 @@ class Example(unittest.TestCase):
         self.assertLessEqual(set(tomllib.loads(example())), keys)
 
 
-class Texts(unittest.TestCase):
+class Texts(FolderCase):
     """The controller's messages for site files with one fault each."""
-
-    def setUp(self) -> None:
-        self.program = program("dmr_trunk")
-        folder = tempfile.TemporaryDirectory()
-        self.addCleanup(folder.cleanup)
-        self.path, self.script = os.path.join(folder.name, "site.toml"), os.path.join(folder.name, "script.txt")
-        with open(self.script, "w", encoding="utf-8"):
-            pass
-
-    def judged(self, text: str) -> tuple[int, str]:
-        """The status and the message for a site file."""
-        with open(self.path, "w", encoding="utf-8") as it:
-            it.write(text)
-        done = subprocess.run([self.program, "--site", self.path, "--script", self.script], capture_output=True, text=True, check=False)
-        return done.returncode, done.stderr
 
     def expect(self, text: str, fault: str | None) -> None:
         """A site file is taken, or refused with this fault."""
+        words = [program("dmr_trunk"), "--site", self.write("site.toml", text), "--script", os.devnull]
+        done = subprocess.run(words, capture_output=True, text=True, check=False)
         wanted = (1, f"dmr_trunk: site file: {fault}\n") if fault else (0, "")
-        self.assertEqual(self.judged(text), wanted, text)
+        self.assertEqual((done.returncode, done.stderr), wanted, text)
 
     def number_cases(self) -> Iterator[tuple[str, int, int]]:
         """Each key with one number: its range in the table, without the ends that are another key's value."""
@@ -135,3 +123,41 @@ class Texts(unittest.TestCase):
     def test_not_toml(self) -> None:
         for text in ("system = ", "system = 1\nsystem = 2\n" + example(), f"system = {1 << 64}\n"):
             self.expect(text, "not TOML")
+
+
+class LongFiles(FolderCase):
+    """Files that are longer than the programs read. A site file has 1 MiB at most, a script 1,024 MiB."""
+
+    def setUp(self) -> None:
+        super().setUp()
+        self.path = self.folder / "long"
+
+    def run_program(self, name: str, *words: str) -> tuple[int, str]:
+        """The status of a program, and what it writes to standard error."""
+        done = subprocess.run([program(name), *words], stdin=subprocess.DEVNULL, capture_output=True, text=True, timeout=120, check=False)
+        return done.returncode, done.stderr
+
+    def make_site(self, octets: int) -> None:
+        """Makes a right site file with this number of octets."""
+        text = pathlib.Path(TWO_CARRIERS).read_bytes()
+        comment = b"#" * 99 + b"\n"
+        rest = octets - len(text)
+        self.path.write_bytes(text + comment * (rest // 100) + b"\n" * (rest % 100))
+
+    def test_site_file(self) -> None:
+        for octets, wanted in ((MIB, (0, "")), (MIB + 1, (1, f"{self.path} has more than 1 MiB\n"))):
+            self.make_site(octets)
+            for name, words in (("dmr_trunk", ["--site", str(self.path), "--script", os.devnull]), ("dmr_decode", ["script", "--site", str(self.path)])):
+                with self.subTest(name, octets=octets):
+                    status, text = self.run_program(name, *words)
+                    self.assertEqual((status, text.removeprefix(f"{name}: ")), wanted)
+        self.assertEqual(self.run_program("dmr_trunk", "--site", str(self.path), "--serve"), (1, f"dmr_trunk: {self.path} has more than 1 MiB\n"))
+
+    def test_a_site_file_without_an_end(self) -> None:
+        for name, words in (("dmr_trunk", ["--site", "/dev/zero", "--script", os.devnull]), ("dmr_decode", ["script", "--site", "/dev/zero"])):
+            self.assertEqual(self.run_program(name, *words), (1, f"{name}: /dev/zero has more than 1 MiB\n"))
+
+    def test_script(self) -> None:
+        self.path.touch()
+        os.truncate(self.path, 1024 * MIB + 1)
+        self.assertEqual(self.run_program("dmr_trunk", "--site", TWO_CARRIERS, "--script", str(self.path)), (1, f"dmr_trunk: {self.path} has more than 1024 MiB\n"))

@@ -1,8 +1,4 @@
 """The events of a file of records. The rows are those of `made_records`, and what is expected was worked out from them by hand."""
-import contextlib
-import pathlib
-import sqlite3
-import tempfile
 import time
 import unittest
 from typing import Any
@@ -10,7 +6,8 @@ from typing import Any
 from temzaar.names import Kind, names_of
 from temzaar.records import BadRow, opened_records
 from temzaar.siteevents import EventKind, SiteEvent, command_line, reason_text, recorded_events
-from tests.made_records import NOON, insert, make_records
+from tests.made_records import NOON, change, insert, make_records, opened
+from tests.support import FolderCase
 from tests.test_hub_records import make_loose
 
 # Of all three terms: milliseconds after noon, the kind, what it is about, and the text.
@@ -38,23 +35,17 @@ def found_of(event: SiteEvent) -> tuple[int, str, dict[str, Any], str]:
     return event.at_ms - NOON, event.kind.value, {name: value for name in ABOUT if (value := getattr(event, name)) is not None}, event.in_words()
 
 
-class Read(unittest.TestCase):
+class Read(FolderCase):
     """What is read from a file."""
 
     def setUp(self) -> None:
-        folder = tempfile.TemporaryDirectory()
-        self.addCleanup(folder.cleanup)
-        self.path = pathlib.Path(folder.name, "site.db")
+        super().setUp()
+        self.path = self.folder / "site.db"
 
     def read(self, **asked: int) -> list[SiteEvent]:
         """The events of the file."""
         with opened_records(str(self.path)) as records:
             return recorded_events(records, **asked)
-
-    def change(self, statement: str, *values: object) -> None:
-        """Changes the file."""
-        with contextlib.closing(sqlite3.connect(self.path)) as conn, conn:
-            conn.execute(statement, values)
 
     def test_all(self) -> None:
         make_records(self.path)
@@ -75,7 +66,7 @@ class Read(unittest.TestCase):
     def test_refused_again_and_again(self) -> None:
         """A radio asks three times for one thing in a term, and once for another: two events, each at the time of its last request."""
         make_records(self.path, terms=2)
-        with contextlib.closing(sqlite3.connect(self.path)) as conn, conn:
+        with opened(self.path) as conn:
             insert(conn, "events", ((21, 2, 1300, NOON + 18_000, "refused", None, None, 1002, 99, None, 0x2F, None),
                                     (22, 2, 1310, NOON + 18_600, "refused", None, None, 1002, 98, None, 0x7A, None),
                                     (23, 2, 1320, NOON + 19_200, "refused", None, None, 1002, 99, None, 0x2F, None)))
@@ -86,7 +77,7 @@ class Read(unittest.TestCase):
     def test_terms_that_were_not_written(self) -> None:
         """The third term is of the same run, and begins 500 ticks after the second ended."""
         make_records(self.path)
-        self.change("UPDATE terms SET last_tick = 3000 WHERE number = 3")
+        change(self.path, "UPDATE terms SET last_tick = 3000 WHERE number = 3")
         found = [it for it in self.read(since=2) if it.kind in (EventKind.UNRECORDED, EventKind.CONTROLLER_STARTED)]
         self.assertEqual([(it.at_ms - NOON, it.unrecorded_ms, it.in_words()) for it in found],
                          [(30_000, 70_000, "terms were not written; no records of the 70.0 s after this")])
@@ -94,7 +85,7 @@ class Read(unittest.TestCase):
     def test_ticks_that_were_late(self) -> None:
         """The third term follows on the second without a gap of ticks, and seems to begin 70 s later: its times may be so much too late."""
         make_records(self.path)
-        self.change("UPDATE terms SET last_tick = 2500 WHERE number = 3")
+        change(self.path, "UPDATE terms SET last_tick = 2500 WHERE number = 3")
         self.assertEqual({(it.kind.value, it.late_ms) for it in self.read(since=2)},
                          {("carrier_back", 70_000), ("command", 70_000), ("refused", 0)})
 
@@ -104,22 +95,22 @@ class Read(unittest.TestCase):
                                              ("terms", "ticks", 999.5, 3)):
             make_loose(self.path)
             if table == "terms":
-                self.change("UPDATE terms SET last_tick = ? WHERE number = 3", value)
-            self.change(f"UPDATE {table} SET {column} = ? WHERE number = ?", value, number)
+                change(self.path, "UPDATE terms SET last_tick = ? WHERE number = 3", [value])
+            change(self.path, f"UPDATE {table} SET {column} = ? WHERE number = ?", (value, number))
             with self.subTest(column=column, value=value), self.assertRaisesRegex(BadRow, rf"^{table}, row {number}: "):
                 self.read()
 
     def test_times_that_no_calendar_has(self) -> None:
         """They are left out."""
         make_records(self.path)
-        self.change("UPDATE events SET at_ms = ? WHERE number = 9", 1 << 60)
-        self.change("UPDATE events SET at_ms = -1 WHERE number = 13")
+        change(self.path, "UPDATE events SET at_ms = ? WHERE number = 9", [1 << 60])
+        change(self.path, "UPDATE events SET at_ms = -1 WHERE number = 13")
         self.assertEqual([found_of(it) for it in self.read()], [it for it in EVENTS if it[0] not in (6_000, 100_600)])
 
     def test_a_hundred_thousand_rows(self) -> None:
         """Of each kind the newest hundred, in a second or so."""
         make_records(self.path, terms=1)
-        with contextlib.closing(sqlite3.connect(self.path)) as conn, conn:
+        with opened(self.path) as conn:
             insert(conn, "events", tuple((number, 1, number, NOON + number, ("was_lost", "came_up", "refused", "drop_command")[number % 4], 1, None, 1 + number // 4, None, None, 0x2F, "done")
                                          for number in range(100, 100_100)))
         began = time.thread_time()
@@ -156,7 +147,3 @@ class Words(unittest.TestCase):
 
     def test_reasons(self) -> None:
         self.assertEqual([reason_text(it) for it in (0x2F, 0x7A, 5, None)], ["Group_Not_Allowed", "0x7A", "0x05", "none"])
-
-
-if __name__ == "__main__":
-    unittest.main()

@@ -3,7 +3,6 @@ import os
 import pathlib
 import re
 import socket
-import tempfile
 import threading
 import tomllib
 import unittest
@@ -11,10 +10,10 @@ import unittest
 from temzaar.console import Console, ConsoleFault, Parties, Status, read_calls, read_lines, read_radios, read_slots
 from temzaar.hubconsole import HubConsole
 from temzaar.sitefile import ConsolePlace, Site, SiteFault, read_console_place
-from tests.support import TWO_CARRIERS
+from tests.support import TWO_CARRIERS, FolderCase
 
 
-class SiteFile(unittest.TestCase):
+class SiteFile(FolderCase):
     """A site and its copies."""
 
     def test_text_reads_back(self) -> None:
@@ -35,18 +34,14 @@ class SiteFile(unittest.TestCase):
     def test_place_of_the_console(self) -> None:
         """`silence` is 1 to 65535 waits of 100 ms."""
         text = pathlib.Path(TWO_CARRIERS).read_text(encoding="utf-8")
-        with tempfile.NamedTemporaryFile("w", suffix=".toml", encoding="utf-8") as file:
-            for line, wanted in (("silence = 1", 0.1), ("silence = 65535", 6553.5), ("silence = 0", "out of range silence"), ("silence = 65536", "out of range silence"),
-                                 ('silence = "5"', "wrong type silence"), ("silence = true", "wrong type silence"), ("", "missing silence")):
-                with self.subTest(line):
-                    file.seek(0)
-                    file.truncate()
-                    file.write(re.sub(r"(?m)^silence = .*$", line, text))
-                    file.flush()
-                    if isinstance(wanted, str):
-                        self.assertRaisesRegex(SiteFault, f"^site file {re.escape(file.name)}: {wanted}$", read_console_place, file.name)
-                    else:
-                        self.assertEqual(read_console_place(file.name), ConsolePlace("127.0.0.1", 7100, wanted, 10000, 60))
+        for line, wanted in (("silence = 1", 0.1), ("silence = 65535", 6553.5), ("silence = 0", "out of range silence"), ("silence = 65536", "out of range silence"),
+                             ('silence = "5"', "wrong type silence"), ("silence = true", "wrong type silence"), ("", "missing silence")):
+            with self.subTest(line):
+                path = str(self.write("site.toml", re.sub(r"(?m)^silence = .*$", line, text)))
+                if isinstance(wanted, str):
+                    self.assertRaisesRegex(SiteFault, f"^site file {re.escape(path)}: {wanted}$", read_console_place, path)
+                else:
+                    self.assertEqual(read_console_place(path), ConsolePlace("127.0.0.1", 7100, wanted, 10000, 60))
 
     def test_radios_are_admitted(self) -> None:
         site = Site(TWO_CARRIERS)
@@ -60,8 +55,7 @@ class Replies(unittest.TestCase):
 
     def test_status(self) -> None:
         status = Status(["status carriers 1 radios 2 asks 0 lines 3 calls 4 fill move 7"])
-        self.assertEqual((status.counts["lines"], status.fill, status.is_empty()), (3, "move 7", False))
-        self.assertTrue(Status(["status carriers 0 radios 0 asks 0 lines 0 calls 0 fill aloha"]).is_empty())
+        self.assertEqual((status.counts["lines"], status.fill), (3, "move 7"))
         self.assertRaises(ConsoleFault, Status, ["error unknown command"])
 
     def test_lists(self) -> None:
@@ -78,7 +72,7 @@ class Replies(unittest.TestCase):
         self.assertRaises(ConsoleFault, read_radios, ["radio x"])
 
 
-class Connection(unittest.TestCase):
+class Connection(FolderCase):
     """A console over a socket on loopback, its other side played here."""
 
     def serve(self, answer: bytes) -> int:
@@ -96,42 +90,25 @@ class Connection(unittest.TestCase):
         threading.Thread(target=answer_one, daemon=True).start()
         return int(listener.getsockname()[1])
 
-    def test_one_line(self) -> None:
-        with Console("127.0.0.1", self.serve(b"ok\n")) as console:
-            self.assertEqual(console.ask("stay"), ["ok"])
-
-    def test_a_list_goes_on_to_its_end(self) -> None:
-        with Console("127.0.0.1", self.serve(b"radio 1\nradio 2\nend\n")) as console:
-            self.assertEqual(console.ask("radios 1"), ["radio 1", "radio 2"])
-
-    def test_a_list_that_is_an_error(self) -> None:
-        with Console("127.0.0.1", self.serve(b"error no carrier\n")) as console:
-            self.assertEqual(console.ask("calls 3"), ["error no carrier"])
-
-    def test_a_list_without_an_end(self) -> None:
-        with Console("127.0.0.1", self.serve(b"\n" * 2000)) as console:
-            self.assertRaisesRegex(ConsoleFault, "sends a list without an end", console.ask, "slots")
-
-    def test_the_word_that_ends_lists_as_the_reply_to_a_question(self) -> None:
-        with Console("127.0.0.1", self.serve(b"end\n")) as console:
-            self.assertEqual(console.ask("status"), ["end"])
+    def test_replies(self) -> None:
+        """A line; a list up to its end, or an error in its place; and the word that ends lists as the reply to a question."""
+        for asked, octets, reply in (("stay", b"ok\n", ["ok"]), ("radios 1", b"radio 1\nradio 2\nend\n", ["radio 1", "radio 2"]),
+                                     ("calls 3", b"error no carrier\n", ["error no carrier"]), ("status", b"end\n", ["end"])):
+            with self.subTest(asked), Console("127.0.0.1", self.serve(octets)) as console:
+                self.assertEqual(console.ask(asked), reply)
 
     def test_an_end_within_a_reply(self) -> None:
         with Console("127.0.0.1", self.serve(b"stat")) as console:
             self.assertRaisesRegex(ConsoleFault, "ended the connection", console.ask, "status")
 
     def test_a_refusal_that_came_before_the_line(self) -> None:
-        with tempfile.TemporaryDirectory() as folder, socket.socket(socket.AF_UNIX) as listener:
-            listener.bind(os.path.join(folder, "console.sock"))
+        path = str(self.folder / "console.sock")
+        with socket.socket(socket.AF_UNIX) as listener:
+            listener.bind(path)
             listener.listen()
-            with HubConsole(os.path.join(folder, "console.sock")) as console:
+            with HubConsole(path) as console:
                 stream, _ = listener.accept()
                 with stream:
                     stream.sendall(b"error the user x has no role here\n")
                 self.assertEqual(console.ask("status"), ["error the user x has no role here"])
                 self.assertRaisesRegex(ConsoleFault, "broke off", console.ask, "status")
-
-    def test_nobody_listens(self) -> None:
-        with socket.create_server(("127.0.0.1", 0)) as listener:
-            port = listener.getsockname()[1]
-        self.assertRaisesRegex(ConsoleFault, "cannot connect", Console, "127.0.0.1", port)

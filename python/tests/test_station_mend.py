@@ -195,7 +195,3 @@ class Hearing(unittest.TestCase):
     def test_the_controllers_decoder_in_the_same_run(self) -> None:
         printed = run_built([built("hearing", FAST), "-n", "500", "-d", program("dmr_decode")])
         self.assertEqual(printed.count("dmr_decode reads"), 8)
-
-
-if __name__ == "__main__":
-    unittest.main()

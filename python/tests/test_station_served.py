@@ -2,20 +2,19 @@
 import random
 import re
 import subprocess
-import tempfile
 import unittest
 from typing import Any
 
 from temzaar.console import Console
 from temzaar.frames import DONE, VERSIONS, FrameType
-from temzaar.process import Controller, connect
-from temzaar.sitefile import FREE_PORTS, Site
+from temzaar.process import connect
+from temzaar.sitefile import Site
 from tests import test_link
+from tests.served_kit import PATIENCE, free_site, served
 from tests.station_kit import FAST, ask, built, compilers
-from tests.support import TWO_CARRIERS, program
+from tests.support import FolderCase, program
 from tests.test_station import Reference, flipped
 
-PATIENCE = 60
 # a frame of the example, in milliseconds, so that a test is soon over; requests are repeated each eighth frame
 FRAME = 20
 COUNTS = re.compile(r"bursts sent (\d+), of them mended (\d+) and not read (\d+); not received (\d+); transmitted (\d+); frames missed (\d+)$")
@@ -44,9 +43,8 @@ class Radio(unittest.TestCase):
 
     def play(self, version: int, *words: str) -> tuple[list[str], list[str]]:
         """What the example prints in 160 frames, and what the console says of radios and calls."""
-        site = Site(TWO_CARRIERS, first_port=FREE_PORTS, link_version=2)
-        with Controller(program("dmr_trunk"), site) as controller:
-            controller.wait_until_served()
+        site = free_site(link_version=2)
+        with served(site):
             done = example(site, "-v", str(version), "-n", "160", "-r", "1001", "-g", "91", "-w", "5", *words)
             said = asked(site, "radios 1000")
         self.assertEqual((done.returncode, done.stderr), (0, ""))
@@ -80,7 +78,7 @@ class Radio(unittest.TestCase):
             self.assertEqual(radios, ["radio 1001"])
 
 
-class Receiver(unittest.TestCase):
+class Receiver(FolderCase):
     """What the example receives from a file, and transmits."""
 
     def test_a_file(self) -> None:
@@ -92,12 +90,9 @@ class Receiver(unittest.TestCase):
         bursts = ask([*questions, *others])
         lines = ["0 " + bursts[0], "", "0 " + bursts[1], "", "1 " + bursts[2], *(f"0 {it}" for it in bursts[3:]), "", "0 " + bursts[2], ""]
         lines += [line for _ in range(20) for line in ("1 voice", "")]
-        site = Site(TWO_CARRIERS, first_port=FREE_PORTS, hang=4)
-        with Controller(program("dmr_trunk"), site) as controller, tempfile.NamedTemporaryFile("w") as file:
-            file.write("".join(f"{line}\n" for line in lines))
-            file.flush()
-            controller.wait_until_served()
-            done = example(site, "-n", "40", "-x", "-f", file.name)
+        site = free_site(hang=4)
+        with served(site):
+            done = example(site, "-n", "40", "-x", "-f", str(self.write("heard", "".join(f"{line}\n" for line in lines))))
             radios = asked(site, "radios 1000")
         sent = re.findall(r"^transmits (\d) (\w+)$", done.stdout, re.M)
         made = ask(f"make {test_link.BURSTS[name].hex()} 0 1 3" for name in test_link.BURSTS)
@@ -116,9 +111,8 @@ class Connection(unittest.TestCase):
     """How the example connects, and connects again."""
 
     def test_it_falls_back_to_version_1(self) -> None:
-        site = Site(TWO_CARRIERS, first_port=FREE_PORTS)
-        with Controller(program("dmr_trunk"), site) as controller:
-            controller.wait_until_served()
+        site = free_site()
+        with served(site) as controller:
             done = example(site, "-v", "2", "-n", "5")
             notes = "\n".join(controller.notes)
         self.assertEqual(done.stdout.splitlines()[:3], ["refused 1", "connects again; milliseconds 1000", "up in version 1"])
@@ -126,14 +120,13 @@ class Connection(unittest.TestCase):
 
     def test_it_comes_back(self) -> None:
         """A controller ends, and another one begins on its ports."""
-        site = Site(TWO_CARRIERS, first_port=FREE_PORTS)
+        site = free_site()
         row = site.row(1)
         words = [built("example", FAST), "-p", str(row["port"]), "-c", "1", "-l", str(row["lpcn"]), "-t", str(FRAME), "-n", "200"]
         with subprocess.Popen(words, stdout=subprocess.PIPE, text=True) as client:
             try:
                 for _ in range(2):
-                    with Controller(program("dmr_trunk"), site) as controller:
-                        controller.wait_until_served()
+                    with served(site) as controller:
                         self.assertTrue(controller.wait_for("carrier 1: .* connected", 10))
             finally:
                 client.terminate()
@@ -190,9 +183,8 @@ class Streams(unittest.TestCase):
 
     def test_both_versions(self) -> None:
         draws = random.Random(11)
-        site = Site(TWO_CARRIERS, first_port=FREE_PORTS, link_version=2)
-        with Controller(program("dmr_trunk"), site) as controller:
-            controller.wait_until_served()
+        site = free_site(link_version=2)
+        with served(site) as controller:
             for version in VERSIONS:
                 came = self.exchange(site, version, self.questions(draws, version), draws)
                 reference, wanted, place = Reference(version), [], 0
@@ -208,7 +200,3 @@ class Streams(unittest.TestCase):
                 self.assertEqual((sum(":DONE" in it for it in wanted), any("FAULT" in it for it in wanted)), (40, False))
                 self.assertGreaterEqual(sum(":TX" in it for it in wanted), 40)
             self.assertNotIn("fault", "\n".join(controller.notes))
-
-
-if __name__ == "__main__":
-    unittest.main()

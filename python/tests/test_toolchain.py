@@ -81,7 +81,3 @@ class Documents(unittest.TestCase):
                                    ("docs/GATE.md", "The kit's logic changes.", 0), ("CHANGELOG.md", LOGIC + PASSED, 0)):
             with self.subTest(text):
                 self.assertEqual(self.count(name, text), faults)
-
-
-if __name__ == "__main__":
-    unittest.main()

@@ -1,17 +1,10 @@
 """The list of definitions that a reader has to believe: ci/trusted-definitions has a line for each crate, with its files and names, and refuses a list that is not so."""
 import importlib
-import importlib.machinery
-import importlib.util
-import pathlib
-import tempfile
-import unittest
 from unittest import mock
 
-from tests.support import TOP
+from tests.support import FolderCase, load_command
 
-loader = importlib.machinery.SourceFileLoader("trusted_definitions", str(TOP / "ci/trusted-definitions"))
-tool = importlib.util.module_from_spec(importlib.util.spec_from_loader("trusted_definitions", loader))
-loader.exec_module(tool)
+tool = load_command("ci/trusted-definitions")
 clauses = importlib.import_module("documents.clauses")
 
 CODE = """\
@@ -88,22 +81,18 @@ IsSmall n = n ≤ most
 """
 
 
-class Trusted(unittest.TestCase):
+class Trusted(FolderCase):
     """A crate with a function, a type and three definitions."""
 
     def setUp(self) -> None:
-        holder = tempfile.TemporaryDirectory()
-        self.addCleanup(holder.cleanup)
-        self.top = pathlib.Path(holder.name)
+        super().setUp()
         for path, text in (("crates/one/src/lib.rt", CODE), ("crates/one/specs/Numbers.antt", NUMBERS), ("crates.txt", "one:\n")):
-            (self.top / path).parent.mkdir(parents=True, exist_ok=True)
-            (self.top / path).write_text(text, encoding="utf-8")
-        for replaced in (mock.patch.multiple(tool, CRATES=self.top / "crates", DOCUMENT=self.top / "TRUSTED.md", SHORT=self.top / "ASSURANCE.md"), mock.patch.object(clauses, "TOP", self.top)):
-            replaced.start()
-            self.addCleanup(replaced.stop)
+            self.write(path, text)
+        document = self.write("TRUSTED.md", "# Head\n\nThe functions: `none`.\n")
+        self.enterContext(mock.patch.multiple(tool, CRATES=self.folder / "crates", DOCUMENT=document, SHORT=self.folder / "ASSURANCE.md"))
+        self.enterContext(mock.patch.object(clauses, "TOP", self.folder))
         clauses.all_items.cache_clear()
         self.addCleanup(clauses.all_items.cache_clear)
-        (self.top / "TRUSTED.md").write_text("# Head\n\nThe functions: `none`.\n", encoding="utf-8")
 
     def printed(self, sources: bool = False) -> str:
         """What is printed of the function."""
@@ -113,8 +102,8 @@ class Trusted(unittest.TestCase):
         """The faults of a list, and of the page that has its counts."""
         reader = tool.Reader()
         reader.follow_function("one::count")
-        (self.top / "TRUSTED.md").write_text(page, encoding="utf-8")
-        (self.top / "ASSURANCE.md").write_text(short, encoding="utf-8")
+        self.write("TRUSTED.md", page)
+        self.write("ASSURANCE.md", short)
         return tool.faults_of(reader, "the list")
 
     def test_a_line_for_each_crate(self) -> None:
@@ -125,14 +114,13 @@ class Trusted(unittest.TestCase):
         self.assertIn("```\n/// A kind.\npub struct Kind {\n", self.printed(True))
 
     def test_a_new_definition_shows(self) -> None:
-        path = self.top / "crates/one/specs/Numbers.antt"
-        path.write_text(NUMBERS.replace("n ≤ most", "n ≤ most + other"), encoding="utf-8")
+        self.write("crates/one/specs/Numbers.antt", NUMBERS.replace("n ≤ most", "n ≤ most + other"))
         self.assertIn("- one: Numbers (most other IsSmall), src (Kind)\n", self.printed())
 
     def test_what_a_law_says(self) -> None:
         """The text of a function that a law says is not followed, but the law's clauses are, which are printed with the texts."""
         code = CODE.replace("{IsSmall}", "{IsSmall, other}") + LAW
-        (self.top / "crates/one/src/lib.rt").write_text(code, encoding="utf-8")
+        self.write("crates/one/src/lib.rt", code)
         with mock.patch.dict(tool.LAWS, {"one::IsSmall": ("one::smalls", "alone")}):
             self.assertTrue(self.printed().endswith(BY_LAW), self.printed())
             self.assertIn("`one::smalls.alone`\n\n```\n    ensures alone { (n : ℕ) → IsSmall n ↔ n ≤ other }\n```\n", self.printed(True))
@@ -143,7 +131,3 @@ class Trusted(unittest.TestCase):
         self.assertEqual(self.faults("the list", "They depend on 2 definitions\n(6 lines)."), [])
         self.assertEqual(self.faults("another", "2 definitions (6 lines)"), ["docs/TRUSTED.md is not what ci/trusted-definitions prints"])
         self.assertEqual(self.faults("the list", "3 definitions (6 lines)"), ['docs/ASSURANCE.md has to say "2 definitions (6 lines)"'])
-
-
-if __name__ == "__main__":
-    unittest.main()

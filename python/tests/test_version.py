@@ -1,20 +1,17 @@
 """The version of the tools and of the hub, and what the package removes of the tools."""
-import pathlib
 import re
 import subprocess
-import tempfile
-import unittest
 from unittest import mock
 
 from temzaar import version
 from temzaar.cli import hub
-from tests.support import TOP, call_tool
+from tests.support import TOP, FolderCase, call_tool
 from tests.test_commands import MAINS
 
 VERSION = subprocess.run([TOP / "ci" / "version"], capture_output=True, text=True, check=True).stdout.strip()
 
 
-class Versions(unittest.TestCase):
+class Versions(FolderCase):
     """The version that is in the controller's source."""
 
     def test_each_tool(self) -> None:
@@ -24,39 +21,31 @@ class Versions(unittest.TestCase):
             self.assertEqual((done.returncode, done.stdout, done.stderr), (0, f"dmr_{name} {VERSION}\n", ""))
 
     def test_the_hubs_first_note(self) -> None:
-        with tempfile.TemporaryDirectory() as folder:
-            config = pathlib.Path(folder, "hub.toml")
-            config.write_text(f'[controller]\nsite_file = "/nowhere.toml"\n[line_port]\nsocket = "{folder}/none/s"\n[audit]\nfile = "{folder}/audit.jsonl"\n', encoding="utf-8")
-            done = call_tool(hub.main, "--config", str(config))
+        folder = self.folder
+        config = self.write("hub.toml", f'[controller]\nsite_file = "/nowhere.toml"\n[line_port]\nsocket = "{folder}/none/s"\n[audit]\nfile = "{folder}/audit.jsonl"\n')
+        done = call_tool(hub.main, "--config", str(config))
         self.assertEqual(done.stderr.split("\n")[0], f"[INFO  dmr_hub] dmr_hub {VERSION}: config file {config}, site file /nowhere.toml")
 
     def test_an_installation(self) -> None:
         """It has no source: `make install` writes the version."""
-        with tempfile.TemporaryDirectory() as folder, mock.patch.object(version, "HERE", pathlib.Path(folder)), mock.patch.object(version, "SOURCE", pathlib.Path(folder, "none")):
+        with mock.patch.multiple(version, HERE=self.folder, SOURCE=self.folder / "none"):
             self.assertEqual(version.read_version(), "unknown")
-            pathlib.Path(folder, "VERSION").write_text("1.2.3\n", encoding="ascii")
+            self.write("VERSION", "1.2.3\n")
             self.assertEqual(version.read_version(), "1.2.3")
         self.assertIn("ci/version >$(DESTDIR)$(PYTHON_LIB)/temzaar/VERSION", (TOP / "Makefile").read_text(encoding="utf-8"))
 
 
-class Removed(unittest.TestCase):
+class Removed(FolderCase):
     """The script that the package runs before it is removed."""
 
     def test_what_python_compiled(self) -> None:
         text = (TOP / "ci" / "package").read_text(encoding="utf-8")
         found = re.search(r"/DEBIAN/prerm\" <<'END'\n(.*?)\nEND\n", text, re.S)
         assert found
-        with tempfile.TemporaryDirectory() as folder:
-            top = pathlib.Path(folder, "temzaar")
-            script = found[1].replace("/usr/lib/python3/dist-packages/temzaar", str(top))
-            subprocess.run(["sh", "-c", script], check=True)
-            for within in (top, top / "hub"):
-                (within / "__pycache__").mkdir(parents=True)
-                (within / "__pycache__" / "a.pyc").touch()
-                (within / "a.py").touch()
-            subprocess.run(["sh", "-c", script], check=True)
-            self.assertEqual(sorted(it.name for it in top.rglob("*")), ["a.py", "a.py", "hub"])
-
-
-if __name__ == "__main__":
-    unittest.main()
+        top = self.folder / "temzaar"
+        script = found[1].replace("/usr/lib/python3/dist-packages/temzaar", str(top))
+        subprocess.run(["sh", "-c", script], check=True)
+        for path in ("__pycache__/a.pyc", "a.py", "hub/__pycache__/a.pyc", "hub/a.py"):
+            self.write(f"temzaar/{path}", "")
+        subprocess.run(["sh", "-c", script], check=True)
+        self.assertEqual(sorted(it.name for it in top.rglob("*")), ["a.py", "a.py", "hub"])

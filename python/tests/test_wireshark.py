@@ -40,7 +40,7 @@ def dissect(plays: Iterable[Play], *words: str, port: int = 7101) -> str:
     packets: list[Sent] = []
     for number, play in enumerate(plays):
         own: list[Sent] = []
-        talk = Talk(own, port, source=40000 + number)
+        talk = Talk(own, port, 40000 + number)
         talk.open(0.0)
         play(talk)
         packets += [Sent(100.0 * number + it.time, it.packet) for it in own]

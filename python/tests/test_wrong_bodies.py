@@ -1,8 +1,6 @@
 """`ci/wrong-bodies`: which refusals say little of a contract, what is printed of a crate's, and
 what it does with each kind of build of the kit."""
 import contextlib
-import importlib.machinery
-import importlib.util
 import io
 import pathlib
 import shutil
@@ -10,13 +8,9 @@ import subprocess
 import unittest
 
 from tests.standin_kit import Kits
-from tests.support import TOP
+from tests.support import load_command
 
-LOADER = importlib.machinery.SourceFileLoader("wrong_bodies", str(TOP / "ci" / "wrong-bodies"))
-SPEC = importlib.util.spec_from_loader("wrong_bodies", LOADER)
-assert SPEC
-wrong_bodies = importlib.util.module_from_spec(SPEC)
-LOADER.exec_module(wrong_bodies)
+wrong_bodies = load_command("ci/wrong-bodies")
 
 REFUSED = "must-fail dmr_link/a.edit: refused, as it must be"
 # what `rt` prints after "refused, as it must be", and how the edit was refused, if that says little
@@ -86,12 +80,9 @@ class Commands(Kits):
 
     def setUp(self) -> None:
         super().setUp()
-        crate = self.checkout / "crates/dmr_calls"
-        for path, text in (("src/a.rt", "a\n"), ("wrong-bodies/wrong.edit", "file: src/a.rt\nold: a\nnew: b\n")):
-            (crate / path).parent.mkdir(parents=True)
-            (crate / path).write_text(text, encoding="utf-8")
-        (self.checkout / "crates/dmr_bits").mkdir()
-        (self.checkout / "crates/dmr_bits/a.rt").write_text("a\n", encoding="utf-8")
+        for path, text in (("dmr_calls/src/a.rt", "a\n"), ("dmr_bits/a.rt", "a\n"),
+                           ("dmr_calls/wrong-bodies/wrong.edit", "file: src/a.rt\nold: a\nnew: b\n")):
+            self.write(f"checkout/crates/{path}", text)
 
     def put_git(self) -> None:
         """Makes the checkout one of git's, which lists its files."""
@@ -123,7 +114,3 @@ class Commands(Kits):
         self.assertEqual(ran.stderr, "wrong-bodies: kit-0 has no command `rt must-fail`: take a build of the kit that has it\n")
         (self.commands / "rt").unlink()
         self.assertIn("the Rattle kit is missing", self.run_command("ci/wrong-bodies", "dmr_calls").stderr)
-
-
-if __name__ == "__main__":
-    unittest.main()

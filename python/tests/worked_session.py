@@ -21,14 +21,11 @@ from temzaar.console import Console
 from temzaar.frames import BYE, FROM_CARRIER, POLL, Cutter, FrameType, active, hello, rx
 from temzaar.process import Controller
 from temzaar.script import Input, read_script
-from temzaar.sitefile import FREE_PORTS, Row, Site
-from tests.support import TWO_CARRIERS
-from tests.test_served import Carrier
+from temzaar.sitefile import Row, Site
+from tests.served_kit import PATIENCE, Carrier, free_site, served
 
 # A row of a table.
 Columns = tuple[object, ...]
-# Seconds that anything may take, on a machine that stalls.
-PATIENCE = 60
 # A tick in a recording.
 TICK = Input("tick", count=1)
 # Ticks that do not come while the session is played.
@@ -164,7 +161,7 @@ REGISTRATIONS = ((1, 1003), (2, 1001), (3, 1005))
 
 def site_of(**changes: Any) -> Site:
     """The site of two carriers on free ports. Carrier 1 has the control slot."""
-    return Site(TWO_CARRIERS, first_port=FREE_PORTS, control=1, silence=10 * PATIENCE, **changes)
+    return free_site(control=1, silence=10 * PATIENCE, **changes)
 
 
 class Player:
@@ -181,7 +178,7 @@ class Player:
         regi = self.site.plan["regi"]
         match step.split():
             case [".."]:
-                time.sleep(2 * self.site.tick_seconds)
+                time.sleep(2 * self.site.plan["tick_ms"] / 1000)
             case [carrier, "comes", "up"]:
                 self.come_up(self.site.row(int(carrier)))
             case [carrier, "is", "lost"]:
@@ -322,8 +319,8 @@ class Session:
     """The session, played over the file of records in a folder. `ticks` has the tick of each step,
     by the number of its term in the file and its text."""
 
-    def __init__(self, program: str, folder: str) -> None:
-        self.program, self.folder = program, folder
+    def __init__(self, folder: str) -> None:
+        self.folder = folder
         self.ticks: dict[tuple[int, str], int] = {}
         self.terms: list[Term] = []
 
@@ -333,9 +330,7 @@ class Session:
         recording = pathlib.Path(self.folder, f"{len(self.terms)}.txt")
         site = site_of(term_entries=ENTRIES, ahoy_wait=NEVER, **run.keys)
         variables = {"STATE_DIRECTORY": self.folder, "DMR_TRUNK_RECORD": str(recording)}
-        words = ["--terms", str(len(run.terms))]
-        with Controller(self.program, site, words, variables) as controller:
-            controller.wait_until_served()
+        with served(site, "--terms", str(len(run.terms)), variables=variables) as controller:
             player = Player(site)
             steps, times = self.play_terms(player, run, recording)
             player.play_to_end(controller)

@@ -33,7 +33,7 @@ from temzaar.archive import (
     DAY_MS, DEFAULT_FOLDER, Archive, Change, month_span, months_of, rows_in_words,
 )
 from temzaar.cli.command import (
-    DONE, FAULT, amount_above, clean_up_on_signals, count_of, parse_words, print_note, run_command,
+    DONE, FAULT, amount_above, command_of, count_of, new_parser, parse_words, print_note,
 )
 from temzaar.moments import Span
 from temzaar.records import DEFAULT_PATH, LOCK_SECONDS, Records, RecordsFault, opened_records
@@ -46,8 +46,7 @@ EVER = -1 << 63
 
 def read_words(words: Sequence[str] | None) -> argparse.Namespace:
     """The words of the command line."""
-    layout = argparse.RawDescriptionHelpFormatter
-    parser = argparse.ArgumentParser(description=__doc__, formatter_class=layout)
+    parser = new_parser(__doc__)
     parser.add_argument("--records", metavar="FILE", default=DEFAULT_PATH,
                         help=f"the controller's file of records ({DEFAULT_PATH})")
     parser.add_argument("--folder", default=DEFAULT_FOLDER,
@@ -134,8 +133,4 @@ def archive_records(options: argparse.Namespace) -> int:
         return run.status
 
 
-def main(words: Sequence[str] | None = None) -> int:
-    """Runs the command. The status."""
-    options = read_words(words)
-    clean_up_on_signals()
-    return run_command(NAME, lambda: archive_records(options))
+main = command_of(NAME, read_words, archive_records)

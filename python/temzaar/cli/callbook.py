@@ -31,11 +31,11 @@ import sys
 from collections.abc import Sequence
 from datetime import UTC, datetime
 
-from temzaar.cli.command import add_names_option, amount_above, clean_up_on_signals, count_of, names_of_words, parse_words, print_note, run_command
+from temzaar.cli.command import add_names_option, amount_above, command_of, count_of, names_of_words, new_parser, parse_words, print_note
 from temzaar.moments import join_times, read_moment
 from temzaar.recordgaps import find_gaps, gaps_within
 from temzaar.records import CAUSES, DEFAULT_PATH, LOCK_SECONDS, opened_records
-from temzaar.recordsheet import CallQuery, SheetFormat, lines_below, who_joined, write_sheet
+from temzaar.recordsheet import FORMATS, TABLE_FORMAT, CallQuery, lines_below, who_joined, write_sheet
 
 MOST_ADDRESS = (1 << 24) - 1
 MOST_CALLS = 1_000_000
@@ -43,9 +43,9 @@ MOST_CALLS = 1_000_000
 
 def read_words(words: Sequence[str] | None) -> argparse.Namespace:
     """The words of the command line."""
-    parser = argparse.ArgumentParser(description=__doc__, formatter_class=argparse.RawDescriptionHelpFormatter)
+    parser = new_parser(__doc__)
     parser.add_argument("--records", metavar="FILE", default=DEFAULT_PATH, help=f"the controller's file of records ({DEFAULT_PATH})")
-    parser.add_argument("--format", choices=[it.value for it in SheetFormat], default=SheetFormat.TABLE.value, help="what is printed (table)")
+    parser.add_argument("--format", choices=FORMATS, default=TABLE_FORMAT, help="what is printed (table)")
     parser.add_argument("--radio", type=count_of(1, MOST_ADDRESS), help="calls that this radio began, and calls to it")
     parser.add_argument("--group", type=count_of(1, MOST_ADDRESS), help="calls to this talkgroup")
     parser.add_argument("--carrier", type=count_of(0, 15), help="calls on this carrier")
@@ -55,7 +55,7 @@ def read_words(words: Sequence[str] | None) -> argparse.Namespace:
     parser.add_argument("--last", type=count_of(1, MOST_CALLS), metavar="N", help="the newest N of them")
     add_names_option(parser)
     parser.add_argument("--seconds", type=amount_above(0, 600), default=LOCK_SECONDS, help=f"how long to wait while the controller writes the file ({LOCK_SECONDS:g})")
-    return parse_words(parser, join_times(list(sys.argv[1:] if words is None else words), ("--from", "--to")))
+    return parse_words(parser, join_times(words))
 
 
 def query_of(options: argparse.Namespace) -> CallQuery:
@@ -75,17 +75,13 @@ def print_calls(options: argparse.Namespace) -> int:
     # of the newest calls alone, the gaps since the first of them
     first = query.from_ms if options.last is None or not calls else calls[0].began_ms
     below = lines_below(gaps_within(gaps, first, query.to_ms), last.ended_ms if last else None)
-    sys.stdout.write(write_sheet(calls, joined, SheetFormat(options.format), names))
+    sys.stdout.write(write_sheet(calls, joined, options.format, names))
     for line in below:
-        if options.format == SheetFormat.TABLE.value:
+        if options.format == TABLE_FORMAT:
             print(line)
         else:
             print_note("callbook", line)
     return 0
 
 
-def main(words: Sequence[str] | None = None) -> int:
-    """Runs the command. The status."""
-    options = read_words(words)
-    clean_up_on_signals()
-    return run_command("callbook", lambda: print_calls(options))
+main = command_of("callbook", read_words, print_calls)

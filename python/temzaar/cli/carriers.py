@@ -28,10 +28,11 @@ Use it before a site goes into service, not on a site in use: the controller tak
 Status: 0 all checks passed; 1 a check failed, or the controller did not listen or ended; 2 the words.
 """
 import argparse
+import contextlib
 import sys
 from collections.abc import Sequence
 
-from temzaar.cli.command import amount_above, clean_up_on_signals, count_of, parse_words, report_fault, run_command
+from temzaar.cli.command import amount_above, command_of, count_of, new_parser, parse_words, report_fault
 from temzaar.faults import ToolFault
 from temzaar.frames import VERSIONS
 from temzaar.player import Play
@@ -43,7 +44,7 @@ from temzaar.trouble import TroubledPlay
 
 def read_words(words: Sequence[str] | None) -> argparse.Namespace:
     """The words of the command line."""
-    parser = argparse.ArgumentParser(description=__doc__, formatter_class=argparse.RawDescriptionHelpFormatter)
+    parser = new_parser(__doc__)
     parser.add_argument("--site", required=True, help="the site file")
     parser.add_argument("--program", help="start this controller, on loopback, and stop it again")
     parser.add_argument("--pid", type=count_of(1, 1 << 22), help="the process of a controller that runs, to print its share of a processor")
@@ -94,16 +95,8 @@ def play_site(options: argparse.Namespace, controller: Controller | None) -> int
 
 def play_with_controller(options: argparse.Namespace) -> int:
     """Plays, with a controller that is started if the words say so, and stopped after success and failure alike. The status."""
-    controller = Controller(options.program, options.served) if options.program else None
-    try:
+    with Controller(options.program, options.served) if options.program else contextlib.nullcontext() as controller:
         return play_site(options, controller)
-    finally:
-        if controller:
-            controller.stop()
 
 
-def main(words: Sequence[str] | None = None) -> int:
-    """Runs the command. The status."""
-    options = read_words(words)
-    clean_up_on_signals()
-    return run_command("carriers", lambda: play_with_controller(options))
+main = command_of("carriers", read_words, play_with_controller)

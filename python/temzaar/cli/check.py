@@ -37,7 +37,7 @@ import tempfile
 from collections.abc import Sequence
 from typing import BinaryIO
 
-from temzaar.cli.command import add_names_option, clean_up_on_signals, parse_words, run_command
+from temzaar.cli.command import add_names_option, command_of, new_parser, parse_words
 from temzaar.cli.plan import add_plan_words, print_plan, require_plan_words
 from temzaar.faults import ToolFault
 from temzaar.frames import VERSIONS
@@ -179,7 +179,7 @@ def check_site(options: argparse.Namespace) -> Report:
 
 def read_words(words: Sequence[str] | None) -> argparse.Namespace:
     """The words of the command line."""
-    parser = argparse.ArgumentParser(description=__doc__, formatter_class=argparse.RawDescriptionHelpFormatter)
+    parser = new_parser(__doc__)
     parser.add_argument("site", nargs="?", metavar="SITE_FILE", help="the site file; - is standard input")
     add_names_option(parser)
     parser.add_argument("--explain", action="store_true", help="print the values as a table, with times in seconds; keys that are missing have their defaults")
@@ -197,7 +197,9 @@ def read_words(words: Sequence[str] | None) -> argparse.Namespace:
 
 
 def check_and_report(options: argparse.Namespace) -> int:
-    """Checks the files that the words name, and prints the report. The status. CheckFault: the check cannot be made, or the controller gave no verdict."""
+    """Checks the files that the words name, or plans, and prints the report. The status. CheckFault: the check cannot be made, or the controller gave no verdict."""
+    if options.plan:
+        return print_plan(options)
     if options.site is None:
         return check_names_alone(options)
     report = check_site(options)
@@ -207,9 +209,4 @@ def check_and_report(options: argparse.Namespace) -> int:
     return report.status()
 
 
-def main(words: Sequence[str] | None = None) -> int:
-    """Runs the command. The status."""
-    options = read_words(words)
-    clean_up_on_signals()
-    action = print_plan if options.plan else check_and_report
-    return run_command("check", lambda: action(options), Status.NOT_CHECKED)
+main = command_of("check", read_words, check_and_report, Status.NOT_CHECKED)

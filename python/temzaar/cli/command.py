@@ -141,6 +141,23 @@ def finish_after_fault(name: str, text: str, status: int) -> int:
     return status
 
 
+def new_parser(text: str | None) -> argparse.ArgumentParser:
+    """A parser of a command's words. The help has the text of the command's module."""
+    return argparse.ArgumentParser(description=text, formatter_class=argparse.RawDescriptionHelpFormatter)
+
+
+def command_of(name: str, read_words: Callable[[Sequence[str] | None], argparse.Namespace],
+               action: Callable[[argparse.Namespace], int], fault_status: int = FAULT) -> Callable[[Sequence[str] | None], int]:
+    """The `main` of a command, which does what its words say, or those of the process. It returns the
+    status, which is `fault_status` after a fault."""
+    def main(words: Sequence[str] | None = None) -> int:
+        """Runs the command. The status."""
+        options = read_words(words)
+        clean_up_on_signals()
+        return run_command(name, lambda: action(options), fault_status)
+    return main
+
+
 def add_names_option(parser: argparse.ArgumentParser) -> None:
     """Adds the option that names the file of names."""
     parser.add_argument("--names", metavar="CSV", help="the file of names, to show next to numbers")

@@ -17,14 +17,14 @@ import json
 import tempfile
 from collections.abc import Sequence
 
-from temzaar.cli.command import amount_above, clean_up_on_signals, parse_words, print_note, run_command
+from temzaar.cli.command import amount_above, command_of, new_parser, parse_words, print_note
 from temzaar.conformance import FAILED, ROWS, VERDICTS, TestSource, judge_rows
 from temzaar.frames import VERSIONS
 
 
 def read_words(words: Sequence[str] | None) -> argparse.Namespace:
     """The words of the command line."""
-    parser = argparse.ArgumentParser(description=__doc__, formatter_class=argparse.RawDescriptionHelpFormatter)
+    parser = new_parser(__doc__)
     parser.add_argument("--site", required=True, help="the site file; the client connects to its ports")
     parser.add_argument("--program", required=True, help="the controller, which is started on other ports")
     parser.add_argument("--link-version", type=int, choices=VERSIONS, default=2, help="the greatest version of the link that the site serves (2)")
@@ -51,8 +51,4 @@ def conform(options: argparse.Namespace) -> int:
     return 3 if counts[FAILED] else 0
 
 
-def main(words: Sequence[str] | None = None) -> int:
-    """Runs the command. The status."""
-    options = read_words(words)
-    clean_up_on_signals()
-    return run_command("conform", lambda: conform(options))
+main = command_of("conform", read_words, conform)

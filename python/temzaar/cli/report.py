@@ -32,15 +32,15 @@ from collections.abc import Sequence
 from datetime import UTC, datetime, timedelta
 
 from temzaar.cli.command import (
-    DONE, add_names_option, amount_above, clean_up_on_signals, count_of, names_of_words,
-    parse_words, run_command,
+    DONE, add_names_option, amount_above, command_of, count_of, names_of_words, new_parser,
+    parse_words,
 )
 from temzaar.faults import replace_text
 from temzaar.moments import (
     DAY, MomentFault, Span, join_times, milliseconds_of, read_moment, short_text,
 )
 from temzaar.records import DEFAULT_PATH, LOCK_SECONDS, opened_records
-from temzaar.recordsheet import SheetFormat
+from temzaar.recordsheet import FORMATS, TABLE_FORMAT
 from temzaar.report import Asked, make_report, write_report
 from temzaar.reportpage import write_page
 from temzaar.sitefile import read_plan
@@ -56,8 +56,7 @@ MODE = 0o640
 
 def read_words(words: Sequence[str] | None) -> argparse.Namespace:
     """The words of the command line."""
-    layout = argparse.RawDescriptionHelpFormatter
-    parser = argparse.ArgumentParser(description=__doc__, formatter_class=layout)
+    parser = new_parser(__doc__)
     parser.add_argument("--records", metavar="FILE", default=DEFAULT_PATH,
                         help=f"the controller's file of records, or a month's ({DEFAULT_PATH})")
     parser.add_argument("--from", dest="first", metavar="FROM", help="when the period begins")
@@ -73,13 +72,12 @@ def read_words(words: Sequence[str] | None) -> argparse.Namespace:
     add_names_option(parser)
     what = parser.add_mutually_exclusive_group()
     what.add_argument("--out", metavar="FILE", help="write the page into this file, as HTML")
-    what.add_argument("--format", choices=[it.value for it in SheetFormat],
-                      default=SheetFormat.TABLE.value, help="what is printed (table)")
+    what.add_argument("--format", choices=FORMATS, default=TABLE_FORMAT,
+                      help="what is printed (table)")
     parser.add_argument("--seconds", type=amount_above(0, 600), default=LOCK_SECONDS,
                         help="how long to wait while the controller writes the file "
                              f"({LOCK_SECONDS:g})")
-    given = list(sys.argv[1:] if words is None else words)
-    return parse_words(parser, join_times(given, ("--from", "--to")))
+    return parse_words(parser, join_times(words))
 
 
 def read_span(first: str | None, last: str | None, now: datetime) -> Span:
@@ -129,12 +127,8 @@ def report_traffic(options: argparse.Namespace) -> int:
     if options.out:
         replace_text(options.out, write_page(report, options.records, now), MODE)
     else:
-        sys.stdout.write(write_report(report, SheetFormat(options.format)))
+        sys.stdout.write(write_report(report, options.format))
     return DONE
 
 
-def main(words: Sequence[str] | None = None) -> int:
-    """Runs the command. The status."""
-    options = read_words(words)
-    clean_up_on_signals()
-    return run_command(NAME, lambda: report_traffic(options))
+main = command_of(NAME, read_words, report_traffic)

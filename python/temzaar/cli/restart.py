@@ -33,12 +33,11 @@ import subprocess
 import tempfile
 import time
 from collections.abc import Sequence
-from typing import NamedTuple
 
 from temzaar.cli.check import PROGRAM, ask_controller, find_controller, read_site
-from temzaar.cli.command import DONE, amount_above, clean_up_on_signals, parse_words, run_command
+from temzaar.cli.command import DONE, amount_above, command_of, new_parser, parse_words
 from temzaar.console import Console
-from temzaar.faults import ToolFault
+from temzaar.faults import ToolFault, reason_of
 from temzaar.hubconsole import HubConsole, find_hub
 from temzaar.moments import short_text
 from temzaar.plannedstop import (
@@ -68,8 +67,7 @@ class LateFault(RestartFault):
 
 def read_words(words: Sequence[str] | None) -> argparse.Namespace:
     """The words of the command line."""
-    layout = argparse.RawDescriptionHelpFormatter
-    parser = argparse.ArgumentParser(description=__doc__, formatter_class=layout)
+    parser = new_parser(__doc__)
     parser.add_argument("--site", metavar="FILE", default=DEFAULT_SITE,
                         help=f"the site file ({DEFAULT_SITE})")
     parser.add_argument("--records", metavar="FILE", default=DEFAULT_PATH,
@@ -173,8 +171,7 @@ class Restart:
                 done = subprocess.run(words, stdin=subprocess.DEVNULL, stdout=output, stderr=output,
                                       timeout=COMMAND_SECONDS, check=False)
             except (OSError, ValueError) as fault:
-                reason = fault.strerror if isinstance(fault, OSError) else fault
-                raise RestartFault(f"cannot run {words[0]}: {reason}") from fault
+                raise RestartFault(f"cannot run {words[0]}: {reason_of(fault)}") from fault
             except subprocess.TimeoutExpired as fault:
                 raise RestartFault(f"{command} did not end within {COMMAND_SECONDS:g} s") from fault
             output.seek(0)
@@ -203,7 +200,8 @@ class Restart:
         if found.first is None or found.last is None:
             within = f"within {self.options.back:g} s"
             raise RestartFault(f"the console did not answer {within}: {found.fault}")
-        if Outcome(before, found.first, self.carriers, self.lists).was_not_stopped():
+        if before.calls.items() & found.first.calls.items():
+            # no call outlives its controller
             raise RestartFault("a call goes on that was active before: "
                                f"{self.options.command} has not restarted this controller")
         outcome = Outcome(before, found.last, self.carriers, self.lists)
@@ -211,48 +209,29 @@ class Restart:
         for line in outcome.lines():
             say(line)
         say(f"now: {found.seconds(found.last):.1f} s after the stop")
-        return DONE if outcome.is_whole() else NOT_ALL_BACK
-
-
-class Ready(NamedTuple):
-    """A restart that may begin: what the site has, and the newest recorded term, if it is known."""
-    restart: Restart
-    before: Seen
-    last: RecordedTerm | None
-
-
-def prepare(options: argparse.Namespace) -> Ready | None:
-    """All up to the restart. None: there is to be none. ToolFault: there must be none now."""
-    restart = Restart(options, require_accepted(options))
-    before, last = restart.look(), restart.last_term()
-    say(before.counts())
-    if options.dry_run:
-        waits = f"wait for the end of a term, at most {options.within:g} s, and "
-        say(f"would {'' if options.now else waits}run: {printable(options.command)}")
-        return None
-    if options.now:
-        return Ready(restart, before, last)
-    last = restart.wait_for_term(last)
-    return Ready(restart, restart.look(), last)
+        return NOT_ALL_BACK if outcome.missing_carriers() or outcome.missing_radios() else DONE
 
 
 def restart_site(options: argparse.Namespace) -> int:
     """Does what the words say. The status. RestartFault: nothing was restarted, or the restart
     failed."""
     try:
-        ready = prepare(options)
+        restart = Restart(options, require_accepted(options))
+        before, last = restart.look(), restart.last_term()
+        say(before.counts())
+        if options.dry_run:
+            waits = f"wait for the end of a term, at most {options.within:g} s, and "
+            say(f"would {'' if options.now else waits}run: {printable(options.command)}")
+            return DONE
+        if not options.now:
+            last = restart.wait_for_term(last)
+            before = restart.look()
     except ToolFault as fault:
         is_of_terms = isinstance(fault, RecordsFault | LateFault)
         hint = "; with --now the end of a term is not waited for" if is_of_terms else ""
         raise RestartFault(f"nothing was restarted: {fault}{hint}") from fault
-    if ready is None:
-        return DONE
     say(f"running: {printable(options.command)}")
-    return ready.restart.stop_and_return(ready.before, ready.last)
+    return restart.stop_and_return(before, last)
 
 
-def main(words: Sequence[str] | None = None) -> int:
-    """Runs the command. The status."""
-    options = read_words(words)
-    clean_up_on_signals()
-    return run_command("restart", lambda: restart_site(options))
+main = command_of("restart", read_words, restart_site)

@@ -43,8 +43,8 @@ import sys
 from collections.abc import Sequence
 from typing import Any
 
-from temzaar.callsheet import ListFormat, calls_in, write_list
-from temzaar.cli.command import add_names_option, amount_above, clean_up_on_signals, names_of_words, parse_words, run_command
+from temzaar.callsheet import FORMATS, calls_in, write_list
+from temzaar.cli.command import add_names_option, amount_above, command_of, names_of_words, new_parser, parse_words
 from temzaar.clock import Clock, Window
 from temzaar.drawing import Drawing, Session
 from temzaar.entries import calls_of
@@ -133,7 +133,7 @@ def draw_files(options: argparse.Namespace) -> int:
     names = names_of_words("timeline", options)
     session, window = read_what_is_drawn(options, names or NO_NAMES)
     if options.calls:
-        write_output(options, write_list(calls_in(session.calls, window), session.clock, ListFormat(options.calls), names))
+        write_output(options, write_list(calls_in(session.calls, window), session.clock, options.calls, names))
     elif options.page:
         draw_pages(options, session, window)
     else:
@@ -143,7 +143,7 @@ def draw_files(options: argparse.Namespace) -> int:
 
 def read_words(words: Sequence[str] | None) -> argparse.Namespace:
     """The words of the command line."""
-    parser = argparse.ArgumentParser(description=__doc__, formatter_class=argparse.RawDescriptionHelpFormatter)
+    parser = new_parser(__doc__)
     parser.add_argument("--site", help="the site file; optional with --records")
     parser.add_argument("--script", help="the script")
     which = parser.add_mutually_exclusive_group(required=True)
@@ -156,9 +156,9 @@ def read_words(words: Sequence[str] | None) -> argparse.Namespace:
     parser.add_argument("--from", dest="first", metavar="FROM", help="draw or list from this tick, or time, on")
     parser.add_argument("--to", dest="last", metavar="TO", help="draw or list up to this tick, or time")
     parser.add_argument("--page", type=amount_above(0, 1e6), metavar="MINUTES", help="draw pages of so many minutes, each into a file of its own, such as incident-001.svg of incident.svg; a line for each goes to standard output")
-    parser.add_argument("--calls", nargs="?", const="text", choices=[it.value for it in ListFormat], help="list the calls, as text without a word after it, instead of drawing")
+    parser.add_argument("--calls", nargs="?", const="text", choices=FORMATS, help="list the calls, as text without a word after it, instead of drawing")
     add_names_option(parser)
-    options = parse_words(parser, join_times(list(sys.argv[1:] if words is None else words), ("--from", "--to")))
+    options = parse_words(parser, join_times(words))
     check_words(parser, options)
     return options
 
@@ -175,8 +175,4 @@ def check_words(parser: argparse.ArgumentParser, options: argparse.Namespace) ->
         parser.error("--page needs --out, after which its files are named")
 
 
-def main(words: Sequence[str] | None = None) -> int:
-    """Runs the command. The status."""
-    options = read_words(words)
-    clean_up_on_signals()
-    return run_command("timeline", lambda: draw_files(options))
+main = command_of("timeline", read_words, draw_files)

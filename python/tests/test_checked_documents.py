@@ -1,14 +1,28 @@
-"""What ci/check-documents says of the sizes of documents, and of the contents of long pages."""
+"""What ci/check-documents knows of headings, to which links lead, and of lemma files; and what it says of the sizes of documents and the contents of long pages."""
 import sys
 import unittest
 
-from tests.support import TOP
+from tests.support import TOP, FolderCase
 
 sys.path.insert(0, str(TOP / "ci"))
-from documents.sizes import contents_faults, size_faults  # noqa: E402  (the path comes first)
+from documents.names import anchors_of, lemma_files  # noqa: E402  (the path comes first)
+from documents.sizes import contents_faults, size_faults  # noqa: E402
 
 BUDGETS = "# KB, and a document\n2.0 README.md\n0.5 python/README.md\n1.5 docs/A.md\n3.5 deploy/man/*.md\n7.5 together\n"
 SIZES = {"README.md": 2000, "python/README.md": 500, "docs/A.md": 1350, "deploy/man/a.1.md": 1600, "deploy/man/b.8.md": 1900}
+
+
+class Headings(FolderCase):
+    """The anchors of headings, and the first comments of lemma files."""
+
+    def test_anchors(self) -> None:
+        page = self.write("page.md", "# A page\n\n## `dmr_core`: the site machine\n### Tick, or [none](other.md)?\n```\n# no heading\n```\n## Tick, or none\n#hashtag\n")
+        self.assertEqual(anchors_of(page), {"a-page", "dmr_core-the-site-machine", "tick-or-none", "tick-or-none-1"})
+
+    def test_lemma_files(self) -> None:
+        for name, text in (("Lib", "pub mod Second\npub mod First\npub mod Lost\nmod Silent\n"), ("First", "-- Counts\n-- ticks.\nuse A\n-- more\n"), ("Second", "-- Adds.\n"), ("Silent", "use A\n-- late\n")):
+            self.write(f"proofs/{name}.antt", text)
+        self.assertEqual(list(lemma_files(self.folder)), [("Second", "Adds."), ("First", "Counts ticks."), ("Lost", ""), ("Silent", "")])
 
 
 class Sizes(unittest.TestCase):
@@ -55,7 +69,3 @@ class Contents(unittest.TestCase):
         self.assertEqual(self.faults(" ".join(links[:2]), 160), [f"{said} The `c`, The `d`, The `e`"])
         self.assertEqual(self.faults(" ".join(links), 160, 44), [])
         self.assertEqual(len(self.faults(" ".join(links), 160, 45)), 1)
-
-
-if __name__ == "__main__":
-    unittest.main()

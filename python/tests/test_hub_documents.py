@@ -1,6 +1,5 @@
 """The hub's documents and files: docs/HUB.md has its metrics, and deploy/ its config file, with each key, and its unit."""
 import dataclasses
-import pathlib
 import re
 import tomllib
 import unittest
@@ -125,9 +124,8 @@ class Metrics(HubCase):
     """The table of metrics."""
 
     async def test_metrics(self) -> None:
-        records = make_records(pathlib.Path(self.folder, "site.db"))
-        records.with_name("site.lock").write_text("dmr_trunk 0.1.0\n", encoding="utf-8")
-        hub = await self.start(config=self.config(records=str(records)))
+        make_records(self.db).with_name("site.lock").write_text("dmr_trunk 0.1.0\n", encoding="utf-8")
+        hub = await self.start(config=self.config(records=self.db))
         await wait_until(lambda: hub.model.picture is not None and hub.records and hub.records.last)
         series = hub.views.all_series()
         shown = [(it.name, "histogram" if isinstance(it, Histogram) else it.kind) for it in series]

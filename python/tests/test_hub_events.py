@@ -201,7 +201,6 @@ class Restored(FeedCase):
         self.restart([*bad, {**asked(3), "line": None}, {**asked(4), "line": {}}, {**asked(6), "user": None}, good])
         self.assertEqual((self.rows(), self.log.count), ([f"- carrier_lost: carrier 1 was lost; acknowledged {time_text(BY.at_ms)} by alice"], 1))
 
-
     def test_long_texts(self) -> None:
         """Of each the beginning is kept."""
         long = "x" * 100_000
@@ -290,12 +289,22 @@ class Watched(unittest.TestCase):
         """The time of the test."""
         return Moment(NOON / 1000 + self.second - self.set_back, 100.0 + self.second)
 
+    def at(self, second: float) -> "Watched":
+        """The test, at another second."""
+        self.second = second
+        return self
+
     def connect(self) -> None:
         """The controller answers."""
         self.link.connection += 1
         self.link.state = LinkState(True, "", self.now())
         self.model.begin()
         self.watch.look(self.now())
+
+    def begin(self) -> None:
+        """The controller answers, and both carriers are up."""
+        self.connect()
+        self.show(0, 1)
 
     def go_away(self, reason: str = "cut") -> None:
         """The controller does not answer any more."""
@@ -323,30 +332,22 @@ class Watched(unittest.TestCase):
         return f"; over {time_text(NOON + int(1000 * second))}"
 
     def test_a_carrier(self) -> None:
-        self.connect()
-        self.show(0, 1)
-        self.second = 5
-        self.show(0)
-        self.second = 7
-        self.show()
-        self.second = 9
-        self.show(0)
-        self.second = 12
-        self.show(0, 1)
+        self.begin()
+        self.at(5).show(0)
+        self.at(7).show()
+        self.at(9).show(0)
+        self.at(12).show(0, 1)
         self.assertEqual(self.rows(), [f"5 waits carrier_lost: carrier 1 was lost{self.over(12)}", f"7 waits control_lost: no control channel: carrier 0 was lost, and the site was off the air{self.over(9)}",
                                        "9 - control_back: the control channel is back: carrier 0 came up", "12 - carrier_back: carrier 1 came up"])
 
     def test_a_start_of_the_controller(self) -> None:
         """Carriers have ten seconds to connect again. The controller is away for three."""
-        self.connect()
-        self.show(0, 1)
-        self.second = 10
-        self.go_away()
+        self.begin()
+        self.at(10).go_away()
         self.pass_seconds(3)
         self.connect()
         self.show()
-        self.second = 15
-        self.show(0)
+        self.at(15).show(0)
         self.pass_seconds(7.9)
         self.assertEqual(self.rows(), [f"10 waits controller_away: the controller was away: cut{self.over(13)}", "13 - controller_back: the controller answered again"])
         self.pass_seconds(0.2)
@@ -354,14 +355,10 @@ class Watched(unittest.TestCase):
 
     def test_a_connection_that_breaks_off(self) -> None:
         """It is opened again within a second: nothing has happened. A carrier that was down before is the same loss."""
-        self.connect()
-        self.show(0, 1)
-        self.second = 1
-        self.show(0)
-        self.second = 2
-        self.go_away()
-        self.second = 2.5
-        self.connect()
+        self.begin()
+        self.at(1).show(0)
+        self.at(2).go_away()
+        self.at(2.5).connect()
         self.show(0)
         self.pass_seconds(60)
         self.assertEqual(self.rows(), ["1 waits carrier_lost: carrier 1 was lost"])
@@ -377,8 +374,7 @@ class Watched(unittest.TestCase):
         """Carrier 1 was lost before the hub's start, and is down. It is one loss. Carrier 0 was lost too, and is up: when it came up is not known."""
         self.watch.feed.take_recorded([lost(-600_000, row=1), lost(-500_000, carrier=0, row=2)])
         self.connect()
-        self.second = 1
-        self.show(0)
+        self.at(1).show(0)
         self.pass_seconds(60)
         self.assertEqual(self.rows(), ["-600 waits carrier_lost: carrier 1 was lost", f"-500 waits control_lost: no control channel: carrier 0 was lost, and the site was off the air{self.over(1)}"])
         # the records of the end come later, and are exact
@@ -387,29 +383,22 @@ class Watched(unittest.TestCase):
 
     def test_the_clock_is_set_back(self) -> None:
         """By an hour, while a carrier is lost and the controller is away: both are over."""
-        self.connect()
-        self.show(0, 1)
-        self.second = 1
-        self.show(0)
+        self.begin()
+        self.at(1).show(0)
         self.set_back = 3600.0
-        self.second = 2
-        self.show(0, 1)
+        self.at(2).show(0, 1)
         self.set_back = 0.0
-        self.second = 3
-        self.go_away()
+        self.at(3).go_away()
         self.pass_seconds(2)
         self.set_back = 3600.0
-        self.second = 6
-        self.connect()
+        self.at(6).connect()
         self.assertEqual([(it.event.at_ms - NOON, it.ended_ms and it.ended_ms - NOON) for it in self.log.waiting()], [(1_000, 1_000), (3_000, 3_000)])
 
     def test_a_burst_that_waits(self) -> None:
         self.connect()
         self.show(0, 1, waiting=True)
-        self.second = 6
-        self.show(0, 1, waiting=True)
-        self.second = 8
-        self.show(0, 1)
+        self.at(6).show(0, 1, waiting=True)
+        self.at(8).show(0, 1)
         self.assertEqual(self.rows(), [f"0 waits no_polls: a burst waited: carrier 1, or the control carrier, did not poll{self.over(8)}"])
 
     def test_records_that_cannot_be_read(self) -> None:
@@ -433,11 +422,9 @@ class Watched(unittest.TestCase):
         self.connect()
         with mock.patch.object(self.model.watch, "is_overdue", lambda: True), mock.patch.object(self.model.watch, "missing_polls", lambda: 0.5):
             self.show(0, 1)
-            self.second = 7
-            self.go_away()
+            self.at(7).go_away()
             self.pass_seconds(0.5)
-        self.second = 8
-        self.connect()
+        self.at(8).connect()
         self.show(0, 1)
         self.assertEqual(self.rows(), [f"0 waits no_polls: a carrier that was up did not poll{self.over(8)}",
                                        f"0 waits records_failed: no records: the controller could not write them, or carriers did not poll{self.over(7)}"])
@@ -448,7 +435,3 @@ class Watched(unittest.TestCase):
         self.book.fault = ""
         self.pass_seconds(1)
         self.assertEqual(self.rows(), [f"1 - names_failed: the hub could not read the names: names.csv: gone{self.over(2)}"])
-
-
-if __name__ == "__main__":
-    unittest.main()

@@ -73,7 +73,3 @@ class Read(unittest.TestCase):
             with self.subTest(line), self.assertRaises(BadRequest) as refused:
                 Request.read(f"{line}\r\nHost: localhost\r\n\r\n".encode("latin-1"), HOSTS)
             self.assertEqual(refused.exception.status, status)
-
-
-if __name__ == "__main__":
-    unittest.main()

@@ -2,7 +2,6 @@
 import asyncio
 import contextlib
 import io
-import json
 import os
 import socket
 import threading
@@ -20,8 +19,9 @@ from temzaar.hub.turn import Paces
 from temzaar.hub.worker import Late, Worker
 from temzaar.hubconsole import HubConsole
 from temzaar.ports import free_ports
-from tests.hub_support import NOBODY, NONE, READ, HubCase, Rules, wait_until
-from tests.test_hub_held import STATUS, AttackCase
+from tests.fake_console import STATUS
+from tests.hub_support import NONE, READ, HubCase, wait_until
+from tests.test_hub_held import AttackCase
 from tests.test_hub_web import WebCase
 
 
@@ -30,9 +30,7 @@ class Taken(unittest.TestCase):
 
     def setUp(self) -> None:
         self.now, self.ended = 100.0, list[str]()
-        clock = mock.patch.object(time, "monotonic", lambda: self.now)
-        clock.start()
-        self.addCleanup(clock.stop)
+        self.enterContext(mock.patch.object(time, "monotonic", lambda: self.now))
 
     def take(self, among: Places, user: str, role: Role = Role.READ, has_spoken: bool = True) -> Place:
         """A place of a user."""
@@ -149,20 +147,18 @@ class Hanging(HubCase):
     def hang(self, place: object, name: str) -> None:
         """A function does not return before the test's end."""
         ends = threading.Event()
-        patch = mock.patch.object(place, name, lambda *_: ends.wait(20))
-        patch.start()
-        self.addCleanup(patch.stop)
+        self.enterContext(mock.patch.object(place, name, lambda *_: ends.wait(20)))
         self.addCleanup(ends.set)
 
     async def test_the_names_of_users(self) -> None:
         """Operators are known by their numbers then, and the audit log is written meanwhile."""
-        hub = await self.start()
-        first = await self.connect()
+        first = await self.operate()
         await first.ask(b"status")
-        hub.line_port.people.worker.seconds = 0.5
+        worker = self.hub.line_port.people.worker
+        worker.seconds = 0.5
         self.hang(roles, "user_name")
         others = [await self.connect() for _ in range(5)]
-        await wait_until(lambda: hub.line_port.people.worker.began)
+        await wait_until(lambda: worker.began)
         self.assertEqual(await first.ask(b"drop 1001"), b"ok\n")
         for other in others:
             self.assertRegex(await other.ask(b"status"), b"^status carriers 2 radios 39 ")
@@ -170,15 +166,14 @@ class Hanging(HubCase):
 
     async def test_the_audit_log(self) -> None:
         """Commands are refused, soon; questions are answered."""
-        hub = await self.start()
-        operator = await self.connect()
-        hub.audit.worker.seconds = 0.2
+        operator = await self.operate()
+        self.hub.audit.worker.seconds = 0.2
         self.hang(audit.os, "fsync")
         for _ in range(3):
             self.assertEqual(await operator.ask(b"drop 1001"), b"error not done: the audit log cannot be written\n")
         self.assertEqual(await operator.ask(b"status"), STATUS)
         self.assertEqual(self.changes_asked(), [])
-        self.assertEqual(hub.audit.fault, f"cannot write {self.audit}: it has not ended after 0.2 s")
+        self.assertEqual(self.hub.audit.fault, f"cannot write {self.audit}: it has not ended after 0.2 s")
 
 
 class Refused(HubCase):
@@ -254,11 +249,11 @@ class Crowds(AttackCase):
 
     async def test_those_without_a_role_take_no_place(self) -> None:
         """The hub does not ask for the names of all of them, and refuses each."""
-        hub = await self.start(Rules(NOBODY, NOBODY, NOBODY, NOBODY, Role.NONE), self.config({"connections": 2}))
+        hub = await self.start(NONE, self.config({"connections": 2}))
         others = [await self.connect() for _ in range(80)]
         for it in others:
-            self.assertRegex(await it.rest(), b"^error the user .* has no role here\n$")
-        self.assertEqual((hub.counts.line_refusals.values, hub.line_port.places.taken), ({(("reason", "no role"),): 80}, {}))
+            self.assertRegex(await it.rest(), rb"^error the user \S+( \d+)? has no role here\n$")
+        self.assertEqual((hub.counts.line_refusals.values, hub.line_port.places.taken, hub.desk.sessions), ({(("reason", "no role"),): 80}, {}, {}))
 
     async def test_a_queue_that_is_full(self) -> None:
         """The console tries again while too many others connect to the hub."""
@@ -317,12 +312,8 @@ class Http(WebCase):
         self.fake.radios.discard(1001)
         self.fake.replies["calls 0"] = ["call 0 1 group 92 from 1001", "end"]
         await wait_until(lambda: hub.model.calls.count == 3 and hub.model.radios and 1001 not in hub.model.radios.radios)
-        self.assertEqual(json.loads((await self.get("/v1/calls.json?last=7")).body)["seen"], 3)
-        self.assertNotIn(1001, json.loads((await self.get("/v1/radios.json")).body)["registered"])
+        self.assertEqual((await self.view("/v1/calls.json?last=7"))["seen"], 3)
+        self.assertNotIn(1001, (await self.view("/v1/radios.json"))["registered"])
         for number in range(100):
             await self.get(f"/v1/calls.json?last={number + 1}")
         self.assertLessEqual(len(hub.board.kept_calls.responses), 16)
-
-
-if __name__ == "__main__":
-    unittest.main()

@@ -6,6 +6,9 @@ from temzaar.hub.query import read_query
 from temzaar.hub.httpread import BadRequest
 from tests.made_records import NOON
 
+NO_NUMBER = "not a whole number: 1 to 16777215"
+NO_TIME = "not a time with a zone, as 2026-11-27T08:00:00Z, or milliseconds since 1970"
+
 
 class Read(unittest.TestCase):
     """Queries that are accepted, and others."""
@@ -26,20 +29,24 @@ class Read(unittest.TestCase):
             for kinds in (CALL_KEYS, EVENT_KEYS):
                 self.assertEqual(read_query(f"from={text}&to=0", kinds), {"from": NOON + 1_800_000, "to": 0}, text)
 
+    def assert_refused(self, kinds: object, query: str, said: str) -> None:
+        """A query is refused, with a text."""
+        with self.subTest(query[:40]), self.assertRaises(BadRequest) as refused:
+            read_query(query, kinds)  # type: ignore[arg-type]
+        self.assertEqual((refused.exception.status, refused.exception.reason), (400, said))
+
     def test_refusals(self) -> None:
-        for query, said in (("colour=red", "colour: unknown key: there is radio, group, from, to, last"), ("radio=1&radio=2", "radio: given twice"), ("radio", "radio: not a whole number: 1 to 16777215"),
-                            ("radio=", "radio: not a whole number: 1 to 16777215"), ("radio=0", "radio: out of range: 1 to 16777215"), ("radio=16777216", "radio: out of range: 1 to 16777215"),
-                            ("radio=-1", "radio: not a whole number: 1 to 16777215"), ("radio=1e3", "radio: not a whole number: 1 to 16777215"), ("radio=%31", "radio: not a whole number: 1 to 16777215"),
-                            ("last=1001", "last: out of range: 1 to 1000"), ("group=91;last=2", "group: not a whole number: 1 to 16777215"), ("last=" + "9" * 5000, "last: not a whole number: 1 to 1000"),
-                            ("x" * 5000, "x" * 40 + ": unknown key: there is radio, group, from, to, last"), ("=5", ": unknown key: there is radio, group, from, to, last"),
-                            ("radio=\xb2", "radio: not a whole number: 1 to 16777215")):
-            with self.subTest(query[:40]), self.assertRaises(BadRequest) as refused:
-                read_query(query, CALL_KEYS)
-            self.assertEqual((refused.exception.status, refused.exception.reason), (400, said))
-        with self.assertRaises(BadRequest) as refused:
-            read_query("span=week", HISTORY_KEYS)
-        self.assertEqual(str(refused.exception), 'span: not "hour" or "day"')
-        for text in ("", "%00", "%1B%5B2J", "%0A", "%C3", "%FF", "x" * 41, "%41" * 20_000, "%" * 64_000):
-            with self.subTest(text[:20]), self.assertRaises(BadRequest) as refused:
-                read_query(f"find={text}", NAME_KEYS)
-            self.assertEqual(refused.exception.status, 400)
+        for kinds, query, said in ((CALL_KEYS, "colour=red", "colour: unknown key: there is radio, group, from, to, last"), (CALL_KEYS, "radio=1&radio=2", "radio: given twice"),
+                                   (CALL_KEYS, "radio=0", "radio: out of range: 1 to 16777215"), (CALL_KEYS, "radio=16777216", "radio: out of range: 1 to 16777215"),
+                                   (CALL_KEYS, "last=1001", "last: out of range: 1 to 1000"), (CALL_KEYS, "group=91;last=2", f"group: {NO_NUMBER}"), (CALL_KEYS, "last=" + "9" * 5000, "last: not a whole number: 1 to 1000"),
+                                   (CALL_KEYS, "x" * 5000, "x" * 40 + ": unknown key: there is radio, group, from, to, last"), (CALL_KEYS, "=5", ": unknown key: there is radio, group, from, to, last"),
+                                   (HISTORY_KEYS, "span=week", 'span: not "hour" or "day"'), (EVENT_KEYS, "refusals=maybe", 'refusals: not "yes" or "no"'), (EVENT_KEYS, "last=0", "last: out of range: 1 to 1000"),
+                                   (RADIO_KEYS, "begins=0", "begins: out of range: 1 to 16777215"), (RADIO_KEYS, "begins=x", f"begins: {NO_NUMBER}"), (RADIO_KEYS, "most=1001", "most: out of range: 1 to 1000")):
+            self.assert_refused(kinds, query, said)
+        for text in ("", "=", "=-1", "=1e3", "=%31", "=\xb2"):
+            self.assert_refused(CALL_KEYS, f"radio{text}", f"radio: {NO_NUMBER}")
+        for text in ("", "%00", "%1B%5B2J", "%0A", "2%0a", "%C3", "%FF", "x" * 41, "%41" * 20_000, "%" * 64_000):
+            self.assert_refused(NAME_KEYS, f"find={text}", "find: not a text of 1 to 40 characters")
+        for text in ("", "noon", "2026-11-27", "2026-11-27T12:00:00", "12:00Z", "-1", "1e12", "253402300800000", "9" * 5000, "%FF", "2026-13-01T00:00:00Z", "1969-12-31T23:59:59Z", "0001-01-01T00:00:00%2B23:59"):
+            for kinds in (CALL_KEYS, EVENT_KEYS):
+                self.assert_refused(kinds, f"to={text}", f"to: {NO_TIME}")

@@ -51,22 +51,13 @@ class Counted(unittest.TestCase):
         self.span.add([("noise", 5, 2), ("noise", 4, 9), ("noise", 9, 9)], 40)
         self.assertEqual(self.span.of("noise", 40), [2, 0, 0, 0])
 
-    def test_memory(self) -> None:
-        """docs/HUB.md names this number."""
-        samples = RecordSamples()
-        self.assertEqual(sum(span.octets() for span in samples.spans.values()), 103_680)
-
 
 class Read(unittest.TestCase):
     """What is read from a file of records, two minutes and a half after noon and ten seconds later."""
 
     def setUp(self) -> None:
-        folder = tempfile.TemporaryDirectory()
-        self.addCleanup(folder.cleanup)
-        self.path = pathlib.Path(folder.name, "site.db")
-        clock = mock.patch("temzaar.hub.newrecords.time.time", return_value=NOON / 1000 + 160)
-        clock.start()
-        self.addCleanup(clock.stop)
+        self.path = pathlib.Path(self.enterContext(tempfile.TemporaryDirectory()), "site.db")
+        self.enterContext(mock.patch("temzaar.hub.newrecords.time.time", return_value=NOON / 1000 + 160))
 
     def counted(self, rows: list[Happened], noon: int) -> set[Happened]:
         """The rows with a count, by the samples after noon."""
@@ -96,7 +87,3 @@ class Read(unittest.TestCase):
         # the hour begins five seconds after noon, since the sample of now is one of its 720
         self.assertEqual({it for it in self.counted(new.happened["hour"], NOON_OF_HOUR)}, {it for it in IN_SAMPLES_OF_5_SECONDS if it[1] >= 1})
         self.assertEqual(self.counted(new.happened["day"], NOON_OF_DAY), IN_SAMPLES_OF_2_MINUTES)
-
-
-if __name__ == "__main__":
-    unittest.main()

@@ -63,6 +63,7 @@ class Sampled(unittest.TestCase):
         self.assertEqual(before, 230_400)
         for second in range(0, 200_000, 50):
             samples.add(values(second), at(second))
+            samples.refill("slots_in_use", {name: [(second // span.step + 1, Summary(1, 1, 1))] for name, span in samples.spans.items()}, at(second + 300))
         self.assertEqual(sum(span.octets() for span in samples.spans.values()), before)
         self.assertEqual({name: step * count for name, (step, count) in SPANS.items()}, {"hour": 3600, "day": 86400})
 

@@ -1,11 +1,12 @@
 """The calls that the hub has seen: begun, ended and moved between pictures, over a lost connection, and in memory that does not grow."""
 import tracemalloc
 import unittest
+from dataclasses import replace
 
 from temzaar.console import Parties, SlotKey
 from temzaar.hub.moment import Moment
 from temzaar.hub.seencalls import MOST_ENDED, RECORD, CallFilter, CallLog, CallRing, SeenCall, pack_call, unpack_call
-
+from temzaar.records import CAUSES
 
 # Every call is asked for.
 ALL = CallFilter()
@@ -99,9 +100,12 @@ class Kept(unittest.TestCase):
     """The ring of calls that have ended."""
 
     def test_records(self) -> None:
-        for kind, older, seen in (("group", True, False), ("radio", False, True), ("radio", True, True)):
-            call = SeenCall(1 << 40, (15, 1), Parties(kind, 99_999_999, 16_777_215), Moment(1.8e9, 12.5), older, Moment(1.8e9 + 1, 13.5), seen)
-            self.assertEqual(unpack_call(RECORD.unpack(pack_call(call))), call)
+        """A cause that is not known is another one."""
+        causes = (*((it, it) for it in CAUSES), (None, None), ("=1+1", "other"))
+        for cause, kept in causes:
+            for kind, older, seen in (("group", True, False), ("radio", False, True), ("radio", True, True)):
+                call = SeenCall(1 << 40, (15, 1), Parties(kind, 99_999_999, 16_777_215), Moment(1.8e9, 12.5), older, Moment(1.8e9 + 1, 13.5), seen, cause)
+                self.assertEqual(unpack_call(RECORD.unpack(pack_call(call))), replace(call, cause=kept))
 
     def test_the_oldest_goes(self) -> None:
         ring = CallRing(3)

@@ -16,8 +16,7 @@ from temzaar.hub.model import SiteModel
 from temzaar.hub.moment import Moment
 from temzaar.hub.newrecords import EVENT_SECONDS
 from temzaar.hub.pagefiles import load_page
-from temzaar.hub.recordsamples import KINDS, RecordSamples
-from temzaar.hub.samples import FIGURES, Samples
+from temzaar.hub.samples import FIGURES, KINDS, Samples, count_spans
 from temzaar.hub.seencalls import MOST_ENDED, CallLog, SeenCall
 from temzaar.hub.session import HELP
 from temzaar.names import MOST_PRINTED, NO_NAMES, Kind, names_of
@@ -66,7 +65,7 @@ class Documented(unittest.TestCase):
         named = " ".join(cell for row in table_rows(HUB[HUB.index("### Seen calls"):], "| key | value") for cell in row)
         self.assertEqual([name for name in call if not re.search(rf"\b{name}\b", named)], [])
         samples = sum(span.octets() for span in Samples().spans.values())
-        counts = sum(span.octets() for span in RecordSamples().spans.values())
+        counts = sum(span.octets() for span in count_spans().values())
         memory = dict(table_rows(HUB, "| what | limit |"))["memory of the page"]  # type: ignore[arg-type]
         for text in ("files, about 70,000 octets", f"samples, {samples:,}", f"the last {MOST_ENDED:,} calls that ended, {len(CallLog().ended.octets):,}", f"their counts {counts:,}"):
             self.assertIn(text, memory)

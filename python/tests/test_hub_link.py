@@ -8,8 +8,7 @@ from unittest import mock
 
 from temzaar.hub.config import ControllerKeys, PollKeys
 from temzaar.hub.counts import HubCounts
-from temzaar.hub.fairqueue import FairQueue
-from temzaar.hub.link import Backoff, ConsoleLink, NoAnswer
+from temzaar.hub.link import Backoff, ConsoleLink, FairQueue, NoAnswer
 from temzaar.hub.model import SiteModel
 from temzaar.hub.moment import Moment
 from temzaar.hub.poller import Poller

@@ -10,9 +10,8 @@ import unittest
 from unittest import mock
 
 from temzaar.hub import audit, notes, places, roles
-from temzaar.hub.notes import MOST_NOTES, UserNotes, note, warn
+from temzaar.hub.notes import MOST_NOTES, Quota, UserNotes, note, warn
 from temzaar.hub.places import MOST_REFUSED, SILENT_SECONDS, NoPlace, Place, Places
-from temzaar.hub.quota import Quota
 from temzaar.hub.roles import Role
 from temzaar.hub.session import MOST_REFUSALS
 from temzaar.hub.turn import Paces
@@ -308,7 +307,7 @@ class Http(WebCase):
         for path in ("/v1/calls.json?last=7", "/v1/radios.json"):
             first, second = await self.get(path), await self.get(path)
             self.assertEqual((first.status, first.body), (200, second.body))
-        self.assertEqual(made, [("last=7",), ("",)])
+        self.assertEqual(made, [({"last": 7},), ({},)])
         self.fake.radios.discard(1001)
         self.fake.replies["calls 0"] = ["call 0 1 group 92 from 1001", "end"]
         await wait_until(lambda: hub.model.calls.count == 3 and hub.model.radios and 1001 not in hub.model.radios.radios)
@@ -316,4 +315,4 @@ class Http(WebCase):
         self.assertNotIn(1001, (await self.view("/v1/radios.json"))["registered"])
         for number in range(100):
             await self.get(f"/v1/calls.json?last={number + 1}")
-        self.assertLessEqual(len(hub.board.kept_calls.responses), 16)
+        self.assertLessEqual(len(hub.board.kept["/v1/calls.json"].responses), 16)

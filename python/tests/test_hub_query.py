@@ -2,8 +2,7 @@
 import unittest
 
 from temzaar.hub.boardviews import CALL_KEYS, EVENT_KEYS, HISTORY_KEYS, NAME_KEYS, RADIO_KEYS
-from temzaar.hub.query import read_query
-from temzaar.hub.httpread import BadRequest
+from temzaar.hub.httpread import BadRequest, read_query
 from tests.made_records import NOON
 
 NO_NUMBER = "not a whole number: 1 to 16777215"

@@ -13,11 +13,10 @@ from unittest import mock
 
 from temzaar.console import Parties
 from temzaar.hub.config import RecordsKeys
-from temzaar.hub.controllerversion import read_controller_version
 from temzaar.hub.moment import Moment
 from temzaar.hub.newrecords import read_new, signature
 from temzaar.hub.recordcounts import RecordCounts, RecordedLog
-from temzaar.hub.recordreader import RecordReader
+from temzaar.hub.recordreader import RecordReader, read_controller_version
 from temzaar.hub.seencalls import CallFilter, CallLog, SeenCall
 from temzaar.records import RecordedTerm
 from tests.hub_support import change_records, quiet_notes, wait_until

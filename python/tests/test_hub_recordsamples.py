@@ -5,7 +5,7 @@ import unittest
 from unittest import mock
 
 from temzaar.hub.newrecords import read_new
-from temzaar.hub.recordsamples import KINDS, CountSpan, Happened, RecordSamples
+from temzaar.hub.samples import KINDS, CountSpan, Happened, count_spans
 from tests.made_records import NOON, add_term, make_records
 
 STEP, COUNT = 5, 4
@@ -70,14 +70,15 @@ class Read(unittest.TestCase):
 
     def test_term_by_term(self) -> None:
         make_records(self.path, terms=1)
-        samples, last, now = RecordSamples(), None, NOON / 1000 + 160
+        spans, last, now = count_spans(), None, NOON / 1000 + 160
         for number in (1, 2, 3):
             if number > 1:
                 add_term(self.path, number)
             new = read_new(str(self.path), last)
-            samples.take(new.happened, now)
+            for name, span in spans.items():
+                span.add(new.happened[name], now)
             last = new.last
-        self.assertEqual({kind: sum(samples.spans["hour"].of(kind, now)) for kind in KINDS},
+        self.assertEqual({kind: sum(spans["hour"].of(kind, now)) for kind in KINDS},
                          {"hang_time": 1, "maximum": 1, "radio_left": 1, "dropped": 0, "ended_by_operator": 1, "carrier_lost": 1, "refused": 3, "noise": 4})
 
     def test_what_is_older_than_the_span(self) -> None:

@@ -30,32 +30,25 @@ class Kind(Protocol):
 
 class Number:
     """A number in a range, whole or with decimals."""
+    called = "number"
+    types: tuple[type, ...] = (int, float)
 
     def __init__(self, low: float, high: float) -> None:
-        self.low, self.high, self.says = low, high, f"{low:g} to {high:g}"
+        self.low, self.high, self.says = low, high, f"{low} to {high}"
 
     def read(self, value: Any) -> float:
         """The number."""
-        if isinstance(value, bool) or not isinstance(value, int | float):
-            raise ValueError(f"not a number: {self.says}")
+        if isinstance(value, bool) or not isinstance(value, self.types):
+            raise ValueError(f"not a {self.called}: {self.says}")
         if not self.low <= value <= self.high:
             raise ValueError(f"out of range: {self.says}")
-        return float(value)
+        return self.types[-1](value)
 
 
-class Whole:
+class Whole(Number):
     """A whole number in a range."""
-
-    def __init__(self, low: int, high: int) -> None:
-        self.low, self.high, self.says = low, high, f"{low} to {high}"
-
-    def read(self, value: Any) -> int:
-        """The number."""
-        if isinstance(value, bool) or not isinstance(value, int):
-            raise ValueError(f"not a whole number: {self.says}")
-        if not self.low <= value <= self.high:
-            raise ValueError(f"out of range: {self.says}")
-        return value
+    called = "whole number"
+    types = (int,)
 
 
 class FilePath:

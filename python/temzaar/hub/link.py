@@ -7,17 +7,19 @@ import asyncio
 import contextlib
 import os
 import random
+from collections import deque
 from collections.abc import Callable
 from dataclasses import dataclass, field
+from typing import Generic, TypeVar
 
 from temzaar.console import ConsoleFault, ReplyFrame, Status
 from temzaar.hub.config import ControllerKeys
 from temzaar.hub.counts import HubCounts
-from temzaar.hub.fairqueue import FairQueue
 from temzaar.hub.lines import AWAY, BUSY
 from temzaar.hub.moment import Moment
 from temzaar.sitefile import ConsolePlace, SiteFault
 
+Item = TypeVar("Item")
 STATUS = b"status"
 # The asker of the link's own questions, and of the poller's.
 HUB = "hub"
@@ -42,6 +44,39 @@ class NoAnswer(Exception):
 
 class LinkBroken(Exception):
     """The connection has ended, or cannot be used any more. The text says why."""
+
+
+class FairQueue(Generic[Item]):
+    """A queue in which those who ask take turns, so that one who asks a lot delays another by one item at most. The items of one asker leave in their order."""
+
+    def __init__(self) -> None:
+        # the askers in the order of their turns; none without an item
+        self.waiting: dict[str, deque[Item]] = {}
+
+    def push(self, asker: str, item: Item) -> None:
+        """Adds an item. An asker that has none gets the last turn."""
+        self.waiting.setdefault(asker, deque()).append(item)
+
+    def pop(self) -> Item | None:
+        """Removes the item whose turn it is; None if the queue is empty."""
+        if not self.waiting:
+            return None
+        asker = next(iter(self.waiting))
+        items = self.waiting.pop(asker)
+        item = items.popleft()
+        if items:
+            self.waiting[asker] = items
+        return item
+
+    def drain(self) -> list[Item]:
+        """Removes all items, in the order of their turns."""
+        items = []
+        while (item := self.pop()) is not None:
+            items.append(item)
+        return items
+
+    def __len__(self) -> int:
+        return sum(map(len, self.waiting.values()))
 
 
 @dataclass

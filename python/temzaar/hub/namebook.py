@@ -1,5 +1,4 @@
 """The names of the site's file of names, which is read again when it changes, and the search in them."""
-import asyncio
 import bisect
 import pathlib
 from array import array
@@ -77,15 +76,6 @@ class NameBook:
     def is_used(self) -> bool:
         """Whether the config names a file."""
         return bool(self.keys.file)
-
-    async def run(self) -> None:
-        """Looks until it is cancelled."""
-        try:
-            while True:
-                await self.look()
-                await asyncio.sleep(self.keys.read_seconds)
-        finally:
-            self.worker.close()
 
     async def look(self) -> None:
         """Takes the names of a file that has changed, if one can be used."""

@@ -17,9 +17,8 @@ from temzaar.hub.lines import ACKNOWLEDGE, ALL, NAME, NO_ANSWER, WHO_SITE, Line,
 from temzaar.hub.link import ConsoleLink, NoAnswer
 from temzaar.hub.moment import utc_text
 from temzaar.hub.namebook import NameBook
-from temzaar.hub.notes import UserNotes
+from temzaar.hub.notes import Quota, UserNotes
 from temzaar.hub.places import Place
-from temzaar.hub.quota import Quota
 from temzaar.hub.roles import Peer, Role
 from temzaar.hub.turn import LongWork, Paces
 from temzaar.names import KINDS, Kind

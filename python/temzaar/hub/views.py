@@ -184,7 +184,6 @@ class Views:
         if self.records is None:
             return
         yield from self.records.counts.all_series()
-        yield from self.records.gaps.all_series()
         yield gauge("dmr_site_records_overdue", "Whether a term should have been recorded that was not.", int(self._is_overdue()))
         if self.records.version is not None:
             info = Series("dmr_site_controller_info", "The controller's version, as a label; the value is always 1.")

@@ -8,7 +8,7 @@ from typing import Any
 from temzaar.hub.eventlog import EventFilter
 from temzaar.hub.eventviews import events_view
 from temzaar.hub.httpread import Kinds, Request, read_query
-from temzaar.hub.keys import Choice, Instant, Sought, Whole
+from temzaar.hub.keys import choice, instant, sought_text, whole_number
 from temzaar.hub.model import SiteModel
 from temzaar.hub.moment import Moment, utc_text
 from temzaar.hub.namebook import Row
@@ -25,11 +25,11 @@ from temzaar.recordgaps import gaps_within
 USUAL_CALLS, MOST_CALLS = 100, 1000
 # How many responses of a path are kept, each of some 400,000 octets at most.
 MOST_KEPT = 16
-CALL_KEYS = {"radio": Whole(1, LAST_RADIO), "group": Whole(1, LAST_RADIO), "from": Instant(), "to": Instant(), "last": Whole(1, MOST_CALLS)}
-EVENT_KEYS = {"from": Instant(), "to": Instant(), "refusals": Choice("yes", "no"), "last": Whole(1, MOST_CALLS)}
-RADIO_KEYS = {"begins": Whole(1, LAST_RADIO), "most": Whole(1, MOST_CALLS)}
-NAME_KEYS = {"find": Sought(MOST_CHARACTERS), "most": Whole(1, MOST_CALLS)}
-HISTORY_KEYS = {"span": Choice(*SPANS)}
+CALL_KEYS = {"radio": whole_number(1, LAST_RADIO), "group": whole_number(1, LAST_RADIO), "from": instant(), "to": instant(), "last": whole_number(1, MOST_CALLS)}
+EVENT_KEYS = {"from": instant(), "to": instant(), "refusals": choice("yes", "no"), "last": whole_number(1, MOST_CALLS)}
+RADIO_KEYS = {"begins": whole_number(1, LAST_RADIO), "most": whole_number(1, MOST_CALLS)}
+NAME_KEYS = {"find": sought_text(MOST_CHARACTERS), "most": whole_number(1, MOST_CALLS)}
+HISTORY_KEYS = {"span": choice(*SPANS)}
 
 
 @dataclass

@@ -10,7 +10,7 @@ from http import HTTPStatus
 from itertools import islice
 from typing import Any
 
-from temzaar.hub.keys import Instant, Kind, Sought
+from temzaar.hub.keys import Kind
 
 END = b"\r\n\r\n"
 MOST_HEADERS = 64
@@ -114,7 +114,8 @@ def check_headers(headers: Headers, version: str, hosts: Collection[str]) -> Non
 
 
 def read_query(text: str, kinds: Kinds) -> dict[str, Any]:
-    """The values of a query, as `radio=1001&last=50`, by its keys, each of its kind. BadRequest: a key is unknown, given twice, or of a wrong value; the text names it."""
+    """The values of a query, as `radio=1001&last=50`, by its keys, each of its kind. BadRequest: a key is unknown, given twice, or of a wrong value; the
+    text names it."""
     values: dict[str, Any] = {}
     for part in filter(None, text.split("&")):
         name, _, value = part.partition("=")
@@ -124,9 +125,8 @@ def read_query(text: str, kinds: Kinds) -> dict[str, Any]:
             if name in values:
                 raise ValueError("given twice")
             # in a text zeros before a number count, and a time has more digits
-            is_text = isinstance(kinds[name], Sought | Instant)
-            is_number = value.isascii() and value.isdecimal() and len(value) <= MOST_DIGITS
-            values[name] = kinds[name].read(int(value) if is_number and not is_text else value)
+            is_number = not kinds[name].is_text and value.isascii() and value.isdecimal() and len(value) <= MOST_DIGITS
+            values[name] = kinds[name].read(int(value) if is_number else value)
         except ValueError as fault:
             raise BadRequest(HTTPStatus.BAD_REQUEST, f"{name[:MOST_SHOWN]}: {fault}") from fault
     return values

@@ -77,8 +77,8 @@ def find_numbers(key: str, names: Sequence[str | int], find: Callable[[str], int
 def find_rules(keys: RoleKeys) -> Rules:
     """The rules of the config. ConfigFault: a user or a group does not exist."""
     finders: dict[str, Callable[[str], int]] = {"users": lambda name: pwd.getpwnam(name).pw_uid, "groups": lambda name: grp.getgrnam(name).gr_gid}
-    numbers = {f"{role}_{who}": find_numbers(f"{role}_{who}", getattr(keys, f"{role}_{who}"), find) for role in ("full", "read") for who, find in finders.items()}
-    return Rules(**numbers, others=Role[keys.others.upper()])
+    found = {key: find_numbers(key, getattr(keys, key), finders[key.partition("_")[2]]) for key in ("full_users", "full_groups", "read_users", "read_groups")}
+    return Rules(**found, others=Role[keys.others.upper()])
 
 
 def user_name(uid: int) -> str:

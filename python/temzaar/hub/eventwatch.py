@@ -1,5 +1,4 @@
 """What the hub sees happen: it compares what is so with what was so at the look before, and adds events to the log."""
-import asyncio
 from collections.abc import Iterator
 from dataclasses import dataclass, field
 
@@ -12,6 +11,7 @@ from temzaar.hub.namebook import NameBook
 from temzaar.hub.recordreader import RecordReader
 from temzaar.siteevents import EventKind, SiteEvent
 
+# Seconds from one look to the next.
 LOOK_SECONDS = 1.0
 # For how many seconds something has to be so before it is an event. The controller is away, or has not answered since the hub's start.
 AWAY_SECONDS, CONNECT_SECONDS = 1.0, 5.0
@@ -51,12 +51,6 @@ class EventWatch:
     def begin(self, now: Moment) -> None:
         """The hub has started."""
         self._add(SiteEvent(wall_ms(now), EventKind.HUB_STARTED))
-
-    async def run(self) -> None:
-        """Looks until it is cancelled."""
-        while True:
-            self.look(Moment.now())
-            await asyncio.sleep(LOOK_SECONDS)
 
     def look(self, now: Moment) -> None:
         """Adds what has begun or ended since the last look."""

@@ -13,7 +13,7 @@ from temzaar.hub.config import Config
 from temzaar.hub.counts import HubCounts
 from temzaar.hub.eventfeed import EventFeed
 from temzaar.hub.eventlog import EventLog
-from temzaar.hub.eventwatch import EventWatch
+from temzaar.hub.eventwatch import LOOK_SECONDS, EventWatch
 from temzaar.hub.httpread import Request
 from temzaar.hub.lineport import STOP_SECONDS, LinePort
 from temzaar.hub.link import ConsoleLink
@@ -125,9 +125,10 @@ class Hub:
         try:
             await self.line_port.open()
             await self.web_port.open()
-            tasks += [asyncio.create_task(self.link.run()), asyncio.create_task(self.poller.run()), asyncio.create_task(self.watch.run())]
-            tasks += [asyncio.create_task(repeat(it.look, it.keys.read_seconds)) for it in files]
-            tasks.append(asyncio.create_task(feed_watchdog()))
+            works = [self.link.run(), self.poller.run(), repeat(self._look, LOOK_SECONDS), *(repeat(it.look, it.keys.read_seconds) for it in files)]
+            if seconds := watchdog_seconds():
+                works.append(feed_watchdog(seconds / 3))
+            tasks += map(asyncio.create_task, works)
             notify_systemd("READY=1")
             await asyncio.wait({waiting, *tasks}, return_when=asyncio.FIRST_COMPLETED)
             for task in tasks:
@@ -156,13 +157,11 @@ class Hub:
         self.watch.begin(self.views.begun)
 
 
-async def feed_watchdog() -> None:
-    """Reports to systemd that the loop turns, until it is cancelled. If systemd expects no report, it waits."""
-    seconds = watchdog_seconds()
+async def feed_watchdog(seconds: float) -> None:
+    """Reports to systemd again and again that the loop turns, until it is cancelled."""
     while True:
-        await asyncio.sleep(seconds / 3 if seconds else 3600)
-        if seconds:
-            notify_systemd("WATCHDOG=1")
+        await asyncio.sleep(seconds)
+        notify_systemd("WATCHDOG=1")
 
 
 def constant_view(response: Response) -> View:

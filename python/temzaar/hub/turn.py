@@ -10,10 +10,11 @@ SHARE, AHEAD_SECONDS = 0.25, 0.05
 MOST_PACERS = 1000
 
 
-async def repeat(look: Callable[[], Awaitable[None]], seconds: float) -> None:
-    """Looks again and again, with a pause of some seconds after each look, until it is cancelled."""
+async def repeat(work: Callable[[], Awaitable[None] | None], seconds: float) -> None:
+    """Does work again and again, with a pause of some seconds after each time, until it is cancelled."""
     while True:
-        await look()
+        if (rest := work()) is not None:
+            await rest
         await asyncio.sleep(seconds)
 
 

@@ -4,7 +4,6 @@ While the controller is away each question fails at once, with the reason. A que
 only the first may have changed the site.
 """
 import asyncio
-import contextlib
 import os
 import random
 from collections import deque
@@ -70,10 +69,7 @@ class FairQueue(Generic[Item]):
 
     def drain(self) -> list[Item]:
         """Removes all items, in the order of their turns."""
-        items = []
-        while (item := self.pop()) is not None:
-            items.append(item)
-        return items
+        return list(iter(self.pop, None))
 
     def __len__(self) -> int:
         return sum(map(len, self.waiting.values()))
@@ -112,7 +108,7 @@ class ConsoleProtocol(asyncio.Protocol):
 
     def __init__(self, on_loss: Callable[[], None]) -> None:
         self.on_loss = on_loss
-        self.transport: asyncio.Transport | None = None
+        self.transport: asyncio.Transport
         self.pending: asyncio.Future[bytes] | None = None
         self.loss: str | None = None
         self.octets = bytearray()
@@ -127,8 +123,8 @@ class ConsoleProtocol(asyncio.Protocol):
     def ask(self, line: bytes) -> asyncio.Future[bytes]:
         """Sends a line. Its reply, to the octet, will be in the future; LinkBroken if the connection ends first."""
         self.pending = asyncio.get_running_loop().create_future()
-        if self.loss is not None or self.transport is None:
-            self.pending.set_exception(LinkBroken(self.loss or "not connected"))
+        if self.loss is not None:
+            self.pending.set_exception(LinkBroken(self.loss))
             mark_retrieved(self.pending)
         else:
             self.frame = ReplyFrame(line)
@@ -162,8 +158,7 @@ class ConsoleProtocol(asyncio.Protocol):
     def break_off(self, reason: str) -> None:
         """Ends the connection."""
         self.lose(reason)
-        if self.transport:
-            self.transport.abort()
+        self.transport.abort()
 
     def lose(self, reason: str) -> None:
         """Records the end of the connection, for the question that is pending too."""
@@ -312,16 +307,14 @@ class ConsoleLink:
             self.wake.clear()
             if console.loss is not None:
                 raise LinkBroken(console.loss)
-            question = self.queue.pop()
-            if question and not question.answer.done():
-                return question
-            if question:
-                continue
-            with contextlib.suppress(TimeoutError):
+            while question := self.queue.pop():
+                if not question.answer.done():
+                    return question
+            try:
                 async with asyncio.timeout_at(until):
                     await self.wake.wait()
-                continue
-            return Question(HUB, STATUS, loop.create_future())
+            except TimeoutError:
+                return Question(HUB, STATUS, loop.create_future())
 
     def _come_up(self) -> None:
         """The console answers."""

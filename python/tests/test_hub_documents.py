@@ -21,7 +21,7 @@ from temzaar.hub.seencalls import MOST_ENDED, CallLog, SeenCall
 from temzaar.hub.session import HELP
 from temzaar.names import MOST_PRINTED, NO_NAMES, Kind, names_of
 from temzaar.siteevents import MOST_OF_A_KIND, NEED_ACKNOWLEDGEMENT, EventKind, SiteEvent
-from tests.hub_support import HubCase, wait_until
+from tests.hub_support import HubCase, array_octets, wait_until
 from tests.made_records import make_records
 from tests.support import TOP, metric_rows, read_document, table_rows
 
@@ -64,10 +64,8 @@ class Documented(unittest.TestCase):
         call = call_view(SeenCall(1, (0, 1), Parties("group", 91, 1001), Moment(0, 0), False), NO_NAMES)
         named = " ".join(cell for row in table_rows(HUB[HUB.index("### Seen calls"):], "| key | value") for cell in row)
         self.assertEqual([name for name in call if not re.search(rf"\b{name}\b", named)], [])
-        samples = sum(span.octets() for span in Samples().spans.values())
-        counts = sum(span.octets() for span in count_spans().values())
         memory = dict(table_rows(HUB, "| what | limit |"))["memory of the page"]  # type: ignore[arg-type]
-        for text in ("files, about 70,000 octets", f"samples, {samples:,}", f"the last {MOST_ENDED:,} calls that ended, {len(CallLog().ended.octets):,}", f"their counts {counts:,}"):
+        for text in ("files, about 70,000 octets", f"samples, {array_octets(Samples()):,}", f"the last {MOST_ENDED:,} calls that ended, {len(CallLog().ended.octets):,}", f"their counts {array_octets(count_spans()):,}"):
             self.assertIn(text, memory)
         self.assertIn(f"at most, {MOST_ENDED:,}", HUB)
         self.assertEqual(round(sum(len(it.body) for it in load_page().values()), -4), 70_000)

@@ -207,11 +207,8 @@ class Refused(HubCase):
         port = free_ports(1)
         hub = await self.start(config=self.config({"tcp_port": port}))
         for octets, replies in ((b"POST / HTTP/1.1\r\nHost: x\r\n\r\ndrop 1001\n", b""), (b"OPTIONS " + b"x" * 99 + b"\ndrop 1001\n", b""), (b"status\nPOST x\n", STATUS + b"error unknown command\n")):
-            reader, writer = await asyncio.open_connection("127.0.0.1", port)
-            writer.write(octets)
-            writer.write_eof()
+            reader, _ = await self.dial(port, octets, ends=True)
             self.assertEqual(await reader.read(), replies)
-            writer.close()
         self.assertEqual((hub.counts.line_cuts.get(reason="http"), self.records()), (2, []))
 
 
@@ -223,17 +220,14 @@ class Crowds(AttackCase):
         hub = await self.serve(connections=6, connections_per_user=4)
         replies = []
         for count in range(5):
-            reader, writer = await asyncio.open_connection("127.0.0.1", self.tcp)
             # those that are refused hear of it first
-            if count < 3:
-                writer.write(b"status\n")
+            reader, _ = await self.dial(self.tcp, b"status\n" if count < 3 else b"")
             replies.append(await reader.readline())
-            self.addCleanup(writer.close)
         self.assertEqual(replies[:3], [STATUS] * 3)
         self.assertEqual(set(replies[3:]), {b"error the hub serves as many connections as it may: try again later\n"})
         for _ in range(3):
             self.assertEqual(await (await self.connect()).ask(b"status"), STATUS)
-        self.assertEqual(len(hub.line_port.places.taken), 6)
+        self.assertEqual((len(hub.line_port.places.taken), hub.counts.line_refusals.get(reason="full")), (6, 2))
 
     async def test_silent_operators_give_way(self) -> None:
         hub = await self.serve(connections_per_user=2)
@@ -278,25 +272,21 @@ class Http(WebCase):
 
     async def test_silent_connections_give_way(self) -> None:
         hub = await self.serve(connections=4, request_seconds=30)
-        silent = [await asyncio.open_connection("127.0.0.1", self.port) for _ in range(4)]
-        for _, writer in silent:
-            writer.write(b"GET / HT")
+        for _ in range(4):
+            await self.dial(self.port, b"GET / HT")
         await wait_until(lambda: len(hub.web_port.places.taken) == 4)
         await asyncio.sleep(SILENT_SECONDS)
         for _ in range(8):
             self.assertEqual((await self.get("/healthz")).status, 200)
         self.assertEqual(hub.counts.http_refusals.get(), 1)
-        for _, writer in silent:
-            writer.close()
 
     async def test_a_refusal_arrives(self) -> None:
         """Also if the request was sent before it, and not read."""
         await self.serve(connections=1, request_seconds=30)
-        _, writer = await asyncio.open_connection("127.0.0.1", self.port)
+        await self.dial(self.port)
         with mock.patch.object(places, "SILENT_SECONDS", 60):
             answers = [await self.get("/" + "x" * 6000) for _ in range(20)]
         self.assertEqual({(it.status, it.headers.get("retry-after"), it.body) for it in answers}, {(503, "1", b"too many connections\n")})
-        writer.close()
 
     async def test_responses_are_kept_until_something_changes(self) -> None:
         hub = await self.serve()

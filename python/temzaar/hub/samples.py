@@ -1,5 +1,8 @@
-"""The last hour and the last day, in memory of a fixed size: figures of the site, as samples with the least, the mean and the greatest value; and how often calls ended,
-requests were refused and noise came, by the controller's records."""
+"""The last hour and the last day, in memory of a fixed size.
+
+Of figures of the site there are samples with the least, the mean and the greatest value. By the controller's records there are counts of calls that ended, of
+refused requests and of noise.
+"""
 import math
 from array import array
 from collections.abc import Iterable, Iterator, Mapping, Sequence
@@ -99,11 +102,6 @@ class Span:
             else:
                 yield Summary(track.least[at], track.total[at] / max(1, self.pictures[at]), track.greatest[at])
 
-    def octets(self) -> int:
-        """How much memory the samples take."""
-        values = sum(len(it) * it.itemsize for track in self.tracks.values() for it in (track.least, track.total, track.greatest))
-        return values + sum(len(it) * it.itemsize for it in (self.numbers, self.pictures))
-
 
 class Samples:
     """The samples of all spans."""
@@ -158,10 +156,6 @@ class CountSpan:
         """The counts of all samples up to now, oldest first."""
         oldest, counts = self.oldest(now), self.counts[kind]
         return [counts[number % self.count] if self.numbers[number % self.count] == number else 0 for number in range(oldest, oldest + self.count)]
-
-    def octets(self) -> int:
-        """How much memory the counts take."""
-        return sum(len(it) * it.itemsize for it in (self.numbers, *self.counts.values()))
 
 
 def count_spans() -> dict[str, CountSpan]:

@@ -43,18 +43,13 @@ class Command(ToolCase):
         """Runs the command to its end."""
         return await self.run_tool("console", *words, given=given)
 
-    async def test_lines_in_a_pipe(self) -> None:
+    async def test_lines_in_a_pipe_and_words(self) -> None:
         await self.start()
-        done = await self.run_console(given="status\nlines 1\nstay")
-        self.assertEqual((done.returncode, done.stdout, done.stderr), (0, STATUS.decode() + "line 1 group 94 from 1004\nend\nok\n", ""))
-        done = await self.run_console(given="drop 7\nstatus\n")
-        self.assertEqual((done.returncode, done.stdout), (3, "error not registered\n" + STATUS.decode()))
-
-    async def test_a_line_of_words(self) -> None:
-        await self.start()
-        done = await self.run_console("calls", "0")
-        self.assertEqual((done.returncode, done.stdout), (0, "call 0 1 group 91 from 1001\nend\n"))
-        self.assertEqual((await self.run_console("--socket", self.socket, "calls", "x")).returncode, 3)
+        shown = STATUS.decode()
+        for words, given, status, replies in (((), "status\nlines 1\nstay", 0, f"{shown}line 1 group 94 from 1004\nend\nok\n"), ((), "drop 7\nstatus\n", 3, f"error not registered\n{shown}"),
+                                              (("calls", "0"), "", 0, "call 0 1 group 91 from 1001\nend\n"), (("--socket", self.socket, "calls", "x"), "", 3, "error unknown command\n")):
+            done = await self.run_console(*words, given=given)
+            self.assertEqual((done.returncode, done.stdout, done.stderr), (status, replies, ""))
 
     async def test_faults(self) -> None:
         done = await self.run_console("status")

@@ -8,10 +8,10 @@ import shutil
 import sqlite3
 import time
 
-from temzaar.hub.config import Config
 from temzaar.hub.service import Hub
 from temzaar.hubconsole import Completions, HubConsole
 from temzaar.ports import free_ports
+from temzaar.siteevents import EventKind
 from tests.fake_console import DOWN, FREE, OFF_AIR, slots
 from tests.hub_support import FULL, READ, Operator, Rules, make_recent_records, wait_until
 from tests.made_records import NOON, make_records
@@ -111,43 +111,37 @@ class AtTheConsole(EventCase):
 
 
 class AfterARestart(EventCase):
-    """What is known once the hub was started again."""
+    """What is known once the hub was started again. It reads records that end ten minutes ago."""
 
-    async def restart(self, config: Config) -> Hub:
-        """Another hub in the place of the first."""
+    async def asyncSetUp(self) -> None:
+        await super().asyncSetUp()
+        make_recent_records(self.db, 600)
+
+    async def begin(self) -> Operator:
+        """An operator of a hub that has read the records, and knows that all carriers are up."""
+        hub = await self.start(config=self.config(records=self.db))
+        await wait_until(lambda: hub.records and hub.records.last and all(it.ended_ms for it in hub.events.kinds[EventKind.CARRIER_LOST]))
+        return await self.connect()
+
+    async def restart(self) -> Operator:
+        """The same of another hub, in the place of the first."""
         self.hub.stop()
         await self.task
-        return await self.begin(config)
-
-    async def begin(self, config: Config) -> Hub:
-        """A hub that has read the records."""
-        hub = await self.start(config=config)
-        await wait_until(lambda: hub.model.picture and hub.records and hub.records.last)
-        return hub
-
-    def recent(self) -> Config:
-        """The config of a hub with records that end ten minutes ago."""
-        make_recent_records(self.db, 600)
-        return self.config(records=self.db)
+        return await self.begin()
 
     async def test_what_was_acknowledged(self) -> None:
         """The records are of the last hour. Carrier 1 was lost, and the hub sees it up. What was acknowledged is not to be acknowledged again, and the rest is."""
-        config = self.recent()
-        hub = await self.begin(config)
-        operator = await self.connect()
+        operator = await self.begin()
         late = ": the audit log that the hub read begins later"
         recorded = ["T waits controller_started: the controller was started", "T - control_back: the control channel is back: carrier 0 came up", "T - carrier_back: carrier 1 came up",
                     f"T waits past_hub: end 1 0, past the hub: ok{late}", "T - refused: radio 1002 was refused: Group_Not_Allowed, about 99", "T waits carrier_lost: carrier 1 was lost; over T",
                     "T - refused: radio 1002 was refused: Group_Not_Allowed, about 99", f"T waits past_hub: move 7, past the hub: ok{late}",
                     "T waits controller_started: the controller was started; no records of the 70.0 s before", "T - control_back: the control channel is back: carrier 0 came up",
                     "T - refused: radio 1004 was refused: Called_Party_Busy, about 1002", f"T waits past_hub: drop 999, past the hub: not registered{late}", f"T waits past_hub: stay, past the hub: ok{late}"]
-        await wait_until(lambda: all(it.ended_ms for it in hub.events.kinds["carrier_lost"]))  # type: ignore[index]
         self.assertEqual([it for it in await self.rows(operator) if "hub_started" not in it], recorded)
-        numbers = [it.number for it in hub.events.waiting()]
+        numbers = [it.number for it in self.hub.events.waiting()]
         await self.rows(operator, b"acknowledge " + " ".join(map(str, numbers[:3])).encode())
-        hub = await self.restart(config)
-        operator = await self.connect()
-        await wait_until(lambda: all(it.ended_ms for it in hub.events.kinds["carrier_lost"]))  # type: ignore[index]
+        operator = await self.restart()
         rows = [it for it in await self.rows(operator) if "hub_started" not in it]
         user = self.records()[0]["user"]
         wanted = [*recorded]
@@ -156,14 +150,12 @@ class AfterARestart(EventCase):
         # the audit log has a record now, and still begins later than these
         self.assertEqual(rows, wanted)
         await self.rows(operator, b"acknowledge all")
-        hub = await self.restart(config)
-        self.assertEqual(([*hub.events.waiting()], len(self.records())), ([], 2))
+        await self.restart()
+        self.assertEqual((self.hub.events.waiting(), len(self.records())), ([], 2))
 
     async def test_commands_through_the_hub(self) -> None:
         """The records have the hub's own command, and another one."""
-        config = self.recent()
-        hub = await self.begin(config)
-        operator = await self.connect()
+        operator = await self.begin()
         await self.rows(operator, b"acknowledge all")
         await operator.ask(b"drop 1001")
         asked = int(1000 * time.time())
@@ -172,11 +164,10 @@ class AfterARestart(EventCase):
                          "ended, most_lines FROM terms WHERE number = 3", (asked + 30,))
             for number, at_ms, radio in ((17, asked - 10, 1001), (18, asked + 15, 1001), (19, asked + 20, 1002)):
                 conn.execute("INSERT INTO events VALUES (?, 4, 1, ?, 'drop_command', NULL, NULL, ?, NULL, NULL, NULL, 'done')", (number, at_ms, radio))
-        await wait_until(lambda: hub.records and hub.records.last and hub.records.last.number == 4)
+        await wait_until(lambda: self.hub.records and self.hub.records.last and self.hub.records.last.number == 4)
         wanted = [f"T - command: drop 1001 by {self.records()[0]['user']}: ok", "T waits past_hub: drop 1001, past the hub: ok", "T waits past_hub: drop 1002, past the hub: ok"]
         self.assertEqual([it for it in await self.rows(operator, b"events 100") if "drop 100" in it], wanted)
-        hub = await self.restart(config)
-        operator = await self.connect()
+        operator = await self.restart()
         self.assertEqual([it for it in await self.rows(operator, b"events 100") if "drop 100" in it], wanted)
 
 

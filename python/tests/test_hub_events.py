@@ -115,45 +115,35 @@ class Once(FeedCase):
 class Commands(FeedCase):
     """Commands with their users, and those that went past the hub."""
 
-    def take(self, *records: dict[str, Any]) -> None:
-        """Takes records of the audit log."""
-        for it in records:
-            self.feed.take_audit(it)
+    def rows_after(self, *steps: dict[str, Any] | SiteEvent) -> list[str]:
+        """The rows after records of the audit log and recorded commands, in the order in which they came."""
+        self.setUp()
+        for it in steps:
+            if isinstance(it, dict):
+                self.feed.take_audit(it)
+            else:
+                self.feed.take_recorded([it])
+        return self.rows()
 
     def test_through_the_hub(self) -> None:
-        self.take(asked(0), asked(20, event="answered", reply="ok"), asked(1_000, "drop 9", "2"), asked(1_020, "drop 9", "2", "answered", "error not registered"),
-                  asked(2_000, "stay", "3"), asked(2_900, "stay", "3", "unanswered", "error no answer: cut"), asked(3_000, "move 7", "4"), asked(3_000, "move 7", "4", "not sent", "error not done: away"))
-        self.feed.take_recorded([command(-50), command(1_010, "drop 9", 2), command(2_000, "stay", 3)])
-        self.assertEqual(self.rows(), ["- command: drop 1001 by alice: ok", "- command: drop 9 by alice: not registered", "- command: stay by alice: no answer"])
+        rows = self.rows_after(
+            asked(0), asked(20, event="answered", reply="ok"), asked(1_000, "drop 9", "2"), asked(1_020, "drop 9", "2", "answered", "error not registered"), asked(2_000, "stay", "3"),
+            asked(2_900, "stay", "3", "unanswered", "error no answer: cut"), asked(3_000, "move 7", "4"), asked(3_000, "move 7", "4", "not sent", "error not done: away"),
+            command(-50), command(1_010, "drop 9", 2), command(2_000, "stay", 3))
+        self.assertEqual(rows, ["- command: drop 1001 by alice: ok", "- command: drop 9 by alice: not registered", "- command: stay by alice: no answer"])
         self.assertEqual(self.log.waiting(), [])
+        # lines as they were typed
+        self.assertEqual(self.rows_after(asked(0, " drop  01001\\x0d"), command(0)), ["- command: drop 1001 by alice"])
 
     def test_past_the_hub(self) -> None:
-        self.take(asked(0))
-        self.feed.take_recorded([command(10), command(400, row=2), command(500, "drop 1002", 3), command(20_000, row=4)])
-        self.assertEqual(self.rows(), ["- command: drop 1001 by alice", "waits past_hub: drop 1001, past the hub: ok", "waits past_hub: drop 1002, past the hub: ok",
-                                       "waits past_hub: drop 1001, past the hub: ok"])
-
-    def test_the_same_command_past_the_hub_first(self) -> None:
-        """One that goes through the hub later is not taken for it."""
-        self.feed.take_recorded([command(0)])
-        self.take(asked(3_000))
-        self.feed.take_recorded([command(3_010, row=2)])
-        self.assertEqual(self.rows(), ["waits past_hub: drop 1001, past the hub: ok", "- command: drop 1001 by alice"])
-
-    def test_both_in_one_tick(self) -> None:
-        """Two rows of one time are two commands."""
-        self.take(asked(0))
-        self.feed.take_recorded([command(0), command(0, row=2)])
-        self.assertEqual(sorted(self.rows()), ["- command: drop 1001 by alice", "waits past_hub: drop 1001, past the hub: ok"])
-
-    def test_lines_as_they_were_typed(self) -> None:
-        self.take(asked(0, " drop  01001\\x0d"))
-        self.feed.take_recorded([command(0)])
-        self.assertEqual(self.rows(), ["- command: drop 1001 by alice"])
-
-    def test_before_the_audit_log_begins(self) -> None:
-        self.feed.take_recorded([command(-3_700_000)])
-        self.assertEqual(self.rows(), [f"waits past_hub: drop 1001, past the hub: ok: {LOG_BEGINS_LATER}"])
+        through, past = "- command: drop 1001 by alice", "waits past_hub: drop 1001, past the hub: ok"
+        rows = self.rows_after(asked(0), command(10), command(400, row=2), command(500, "drop 1002", 3), command(20_000, row=4))
+        self.assertEqual(rows, [through, past, "waits past_hub: drop 1002, past the hub: ok", past])
+        # one that goes through the hub later is not taken for the same command past the hub
+        self.assertEqual(self.rows_after(command(0), asked(3_000), command(3_010, row=2)), [past, through])
+        # two rows of one tick are two commands
+        self.assertEqual(sorted(self.rows_after(asked(0), command(0), command(0, row=2))), [through, past])
+        self.assertEqual(self.rows_after(command(-3_700_000)), [f"{past}: {LOG_BEGINS_LATER}"])
 
 
 class Restored(FeedCase):

@@ -1,10 +1,11 @@
 """The hub's port for operators: lines and replies, roles, limits, and the stop."""
 import asyncio
 import os
+import pathlib
 import socket
 import unittest
 
-from temzaar.hub.lineport import PortFault
+from temzaar.hub.lineport import PortFault, bind_socket
 from temzaar.hub.lines import Line, LineCutter, LineKind, escape_octets
 from temzaar.hub.roles import ConfigFault, Role, Rules, find_rules
 from temzaar.hub.config import RoleKeys
@@ -277,18 +278,15 @@ class Stopped(HubCase):
         await self.start()
         self.assertEqual(await (await self.connect()).ask(b"status"), STATUS)
 
-    async def test_another_hub_is_not_replaced(self) -> None:
+    async def test_another_hub_or_a_file_is_not_replaced(self) -> None:
+        pathlib.Path(self.socket).touch()
+        self.assertRaisesRegex(PortFault, "is not a socket", bind_socket, self.socket)
+        self.assertTrue(os.path.exists(self.socket))
+        os.unlink(self.socket)
         await self.start()
         with self.assertRaisesRegex(PortFault, "another process serves"):
             await self.start()
         self.assertEqual(await (await self.connect()).ask(b"status"), STATUS)
-
-    async def test_a_file_is_not_replaced(self) -> None:
-        with open(self.socket, "w", encoding="ascii"):
-            pass
-        with self.assertRaisesRegex(PortFault, "is not a socket"):
-            await self.start()
-        self.assertTrue(os.path.exists(self.socket))
 
     async def test_a_tcp_port_that_is_taken(self) -> None:
         with socket.create_server(("127.0.0.1", 0)) as taken, self.assertRaisesRegex(PortFault, "cannot listen on port"):

@@ -113,9 +113,12 @@ class New(Folder):
         self.assertEqual(signature(str(self.folder / "none")), (None, None))
 
 
-def seen(log: CallLog, number: int, slot: tuple[int, int], parties: str, began: float, ended: float, is_end_seen: bool = True) -> None:
-    """Adds a call that has ended to a log; seconds after noon."""
-    log.ended.append(SeenCall(number, slot, Parties.read(parties), Moment(NOON / 1000 + began, began), False, Moment(NOON / 1000 + ended, ended), is_end_seen))
+def log_of(*calls: tuple[int, tuple[int, int], str, float, float]) -> CallLog:
+    """A log of calls that have ended: the number, the slot and the parties of each, and the seconds after noon at which it began and ended."""
+    log = CallLog(10_000)
+    for number, slot, parties, began, ended in calls:
+        log.ended.append(SeenCall(number, slot, Parties.read(parties), Moment(NOON / 1000 + began, began), False, Moment(NOON / 1000 + ended, ended), True))
+    return log
 
 
 def make_loose(path: pathlib.Path) -> None:
@@ -180,52 +183,47 @@ class Damaged(unittest.IsolatedAsyncioTestCase):
 class LastCalls(Folder):
     """The calls of the records and those that the hub saw, as one list."""
 
+    def recorded(self, terms: int = 3) -> RecordedLog:
+        """The log of a file with some terms."""
+        recorded = RecordedLog()
+        recorded.take(read_new(str(make_records(self.folder / "site.db", terms)), None))
+        return recorded
+
     def find(self, log: CallLog, terms: int, wanted: CallFilter = ALL, most: int = 100) -> list[tuple[int, bool, str | None]]:
         """Calls: number, whether each has ended, and the cause. The hub is five seconds late at most."""
-        recorded = RecordedLog()
-        recorded.take(read_new(str(make_records(self.folder / f"site{terms}.db", terms)), None))
-        return [(it.number, it.ended is not None, it.cause) for it in recorded.find(log, wanted, most, 5.0)]
+        return [(it.number, it.ended is not None, it.cause) for it in self.recorded(terms).find(log, wanted, most, 5.0)]
 
     def test_records_alone(self) -> None:
-        self.assertEqual(self.find(CallLog(10), 3), [(5, True, "maximum"), (4, True, "radio_left"), (3, True, "carrier_lost"), (2, True, "ended_by_operator"), (1, True, "hang_time")])
-        self.assertEqual(self.find(CallLog(10), 3, CallFilter(radio=1001), most=2), [(4, True, "radio_left"), (2, True, "ended_by_operator")])
+        self.assertEqual(self.find(log_of(), 3), [(5, True, "maximum"), (4, True, "radio_left"), (3, True, "carrier_lost"), (2, True, "ended_by_operator"), (1, True, "hang_time")])
+        self.assertEqual(self.find(log_of(), 3, CallFilter(radio=1001), most=2), [(4, True, "radio_left"), (2, True, "ended_by_operator")])
+        self.assertEqual(self.find(log_of((1, (0, 1), "radio 1003 from 1001", 10, 25)), 0), [(1, True, None)])
 
     def test_times(self) -> None:
-        recorded = RecordedLog()
-        recorded.take(read_new(str(make_records(self.folder / "site.db")), None))
+        recorded = self.recorded()
         call = next(recorded.ended.find(ALL))
         self.assertEqual((call.began.wall, call.ended and call.ended.wall, call.seconds, call.slot, str(call.parties), recorded.until),
                          (NOON / 1000 + 112, NOON / 1000 + 149.5, 37.5, (0, 1), str(Parties("group", 91, 1002)), NOON / 1000 + 160))
 
     def test_seen_calls_before_the_last_term_are_the_records(self) -> None:
         """The first two terms end at 30 s. A call that the hub saw end after that is listed, the others are not."""
-        log = CallLog(10)
-        seen(log, 1, (0, 1), "radio 1003 from 1001", 10, 25)
-        seen(log, 2, (1, 0), "group 93 from 1003", 20, 30)
-        seen(log, 3, (0, 1), "group 91 from 1002", 31, 40)
+        log = log_of((1, (0, 1), "radio 1003 from 1001", 10, 25), (2, (1, 0), "group 93 from 1003", 20, 30), (3, (0, 1), "group 91 from 1002", 31, 40))
         self.assertEqual(self.find(log, 2)[:2], [(3, True, None), (4, True, "radio_left")])
 
     def test_an_end_that_was_seen_late(self) -> None:
         """A call of the records ended at 24 s. The hub saw one of the same parties end at 31 s, too late to be the same. Then one at 28 s, just after the end of
         a last term at 27 s: that is the same, and one of other parties is not."""
-        log = CallLog(10)
-        seen(log, 7, (0, 1), "radio 1003 from 1001", 10, 31)
-        self.assertEqual(self.find(log, 2)[0], (7, True, None))
-        recorded = RecordedLog()
-        recorded.take(read_new(str(make_records(self.folder / "late.db", 2)), None))
+        self.assertEqual(self.find(log_of((7, (0, 1), "radio 1003 from 1001", 10, 31)), 2)[0], (7, True, None))
+        recorded = self.recorded(2)
         recorded.until = NOON / 1000 + 27
-        log = CallLog(10)
-        seen(log, 8, (0, 1), "radio 1003 from 1001", 10, 28)
-        seen(log, 9, (0, 1), "radio 1003 from 1002", 10, 28)
+        log = log_of((8, (0, 1), "radio 1003 from 1001", 10, 28), (9, (0, 1), "radio 1003 from 1002", 10, 28))
         self.assertEqual([it.number for it in recorded.find(log, ALL, 3, 5.0)], [9, 4, 3])
 
     def test_the_clock_is_set_back(self) -> None:
         """All calls that were seen and recorded before have ended later than the last term. They are listed once, and soon."""
-        recorded, log, last = RecordedLog(), CallLog(10_000), 4000
-        for number in range(last):
-            seen(log, number, (0, 1), f"group {number + 1} from 1001", 7200 + number, 7201 + number)
-            recorded.ended.append(next(log.ended.find(ALL)))
-        recorded.until = NOON / 1000
+        recorded, last = RecordedLog(until=NOON / 1000), 4000
+        log = log_of(*((number, (0, 1), f"group {number + 1} from 1001", 7200 + number, 7201 + number) for number in range(last)))
+        for call in reversed([*log.ended.find(ALL)]):
+            recorded.ended.append(call)
         began = time.thread_time()
         found = recorded.find(log, ALL, 100, 5.0)
         self.assertLess(time.thread_time() - began, 0.2)
@@ -236,11 +234,6 @@ class LastCalls(Folder):
         log.look({}, Moment(NOON / 1000, 0))
         log.look({(1, 1): "group 92 from 1003"}, Moment(NOON / 1000 + 200, 200))
         self.assertEqual(self.find(log, 3, most=2), [(1, False, None), (5, True, "maximum")])
-
-    def test_no_record_yet(self) -> None:
-        log = CallLog(10)
-        seen(log, 1, (0, 1), "radio 1003 from 1001", 10, 25)
-        self.assertEqual(self.find(log, 0), [(1, True, None)])
 
 
 class Served(WebCase):

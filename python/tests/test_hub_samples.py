@@ -58,11 +58,10 @@ class Sampled(unittest.TestCase):
         self.assertEqual(self.found(5), [None, None, Summary(1, 3, 5), Summary(7, 7, 7)])
         self.assertEqual([self.span.pictures[it] for it in self.span.places(at(5)) if it is not None], [3, 1])
 
-    def test_old_samples_go(self) -> None:
+    def test_old_samples_go_and_gaps_stay(self) -> None:
         self.add(*((number * STEP, number) for number in range(10)))
         self.assertEqual(self.found(45), [Summary(it, it, it) for it in (6, 7, 8, 9)])
-
-    def test_a_gap_without_pictures(self) -> None:
+        self.setUp()
         self.add((0, 1), (11, 2))
         self.assertEqual(self.found(11), [None, Summary(1, 1, 1), None, Summary(2, 2, 2)])
         self.assertEqual(self.found(1000), [None] * COUNT)

@@ -1,6 +1,7 @@
 """An operator's connection: its lines, one after another, and their replies."""
 import asyncio
 import contextlib
+import itertools
 import time
 from collections.abc import Callable, Coroutine, Iterable, Iterator
 from dataclasses import dataclass, field
@@ -75,7 +76,7 @@ class Desk:
     own_work: LongWork = field(default_factory=LongWork)
     recorded_refusals: Quota = field(default_factory=lambda: Quota(MOST_REFUSALS, REFUSALS_SECONDS))
     notes: UserNotes = field(default_factory=UserNotes)
-    changes: int = 0
+    changes: Iterator[int] = field(default_factory=lambda: itertools.count(1))
     tasks: set[asyncio.Future[None]] = field(default_factory=set)
 
     def keep_task(self, work: Coroutine[Any, Any, None]) -> None:
@@ -96,11 +97,6 @@ class Desk:
         self.notes.quota.end()
         if self.tasks:
             await asyncio.wait(set(self.tasks))
-
-    def next_change(self) -> str:
-        """A name for a command, which its records share: when the hub asks, and a number."""
-        self.changes += 1
-        return f"{int(time.time())}-{self.changes}"
 
 
 @dataclass
@@ -207,8 +203,8 @@ class Session:
         return reply
 
     def _record_of(self, line: Line | None) -> dict[str, Any]:
-        """What all records of a line have; None: they are of many lines."""
-        return {"id": self.desk.next_change(), "user": self.peer.user, "uid": self.peer.uid, "pid": self.peer.pid,
+        """What all records of a line have; None: they are of many lines. The name that they share is when the hub asks, and a number."""
+        return {"id": f"{int(time.time())}-{next(self.desk.changes)}", "user": self.peer.user, "uid": self.peer.uid, "pid": self.peer.pid,
                 "role": self.peer.role.name.lower(), "connection": self.number, "line": line.text if line else None}
 
     async def _refuse(self, line: Line, record: dict[str, Any]) -> bytes:

@@ -26,7 +26,6 @@ import textwrap
 import time
 import tty
 from collections.abc import Iterable, Iterator, Sequence
-from typing import Protocol
 
 from temzaar.cli.command import add_names_option, address_of_words, amount_above, clean_up_on_signals, parse_words, print_note, run_command
 from temzaar.console import LONGEST_LINE, Console, ConsoleFault, SlotKey, Status
@@ -48,15 +47,8 @@ MOST_TYPED = LONGEST_LINE + 20
 # A part of a row: its text, and the state that colours it.
 Part = tuple[str, str]
 Row = list[Part]
-
-
-class NameSource(Protocol):
-    """A source of names; `fault` is why they may be old ones."""
-    fault: str
-
-    def find(self, texts: Iterable[str]) -> Names:
-        """The names that are next to the numbers of some texts."""
-        ...
+# What finds names. Its `fault` is why they may be old ones.
+NameSource = FileNames | HubNames
 
 
 def texts_of(picture: Picture) -> list[str]:

@@ -67,11 +67,6 @@ class BoardViews:
             del view["radios"]["names"]
         return Response(json_octets(view), JSON)
 
-    @property
-    def names(self) -> Names:
-        """The names that are known."""
-        return self.views.names
-
     def radios_json(self, request: Request) -> Response:
         """The registered radios, or those that the query asks for. The response stays the same until the list or names change. BadRequest: the query is refused."""
         return self._find(request, RADIO_KEYS, (self.model.radios_changed, self.views.book.version), self._make_radios)
@@ -88,7 +83,7 @@ class BoardViews:
         found = [it for it in radios.radios if str(it).startswith(str(query["begins"]))] if "begins" in query else radios.radios
         listed = found[:query.get("most")]
         view = {"changed": utc_text(changed.wall, decimals=True), "complete": radios.is_complete, "registered": listed, "count": len(radios.radios), "found": len(found),
-                "names": names_of_radios(listed, self.names)}
+                "names": names_of_radios(listed, self.views.names)}
         return tagged_response(json_octets(view), JSON)
 
     def names_json(self, request: Request) -> Response:
@@ -116,14 +111,14 @@ class BoardViews:
         until, ring = recorded.until if recorded else None, recorded.ended if recorded else log.ended
         view = {"since": utc_text(self.views.begun.wall, decimals=True), "poll_seconds": self.views.config.poll.state_seconds, "seen": log.count, "kept": log.ended.size,
                 "recorded_until": None if until is None else utc_text(until, decimals=True), "complete": len(found) <= most and not ring.has_lost(first),
-                "calls": [call_view(it, self.names) for it in found[:most]], "name": self._name_asked(query)}
+                "calls": [call_view(it, self.views.names) for it in found[:most]], "name": self._name_asked(query)}
         return tagged_response(json_octets(view), JSON)
 
     def _name_asked(self, query: dict[str, Any]) -> str | None:
         """The name of the group or the radio that a query names."""
         if "group" in query:
-            return self.names.name_of(Kind.TALKGROUP, query["group"])
-        return self.names.name_of(Kind.RADIO, query["radio"]) if "radio" in query else None
+            return self.views.names.name_of(Kind.TALKGROUP, query["group"])
+        return self.views.names.name_of(Kind.RADIO, query["radio"]) if "radio" in query else None
 
     def _find_calls(self, wanted: CallFilter, most: int) -> list[SeenCall]:
         """The calls that are asked for. Of those that ended before the last recorded term did, the records have the last word."""
@@ -138,7 +133,7 @@ class BoardViews:
     def _make_events(self, query: dict[str, Any]) -> Response:
         """The events by a query."""
         wanted = EventFilter(query.get("from"), query.get("to"), query.get("refusals") != "no")
-        view = events_view(self.views.events, wanted, query.get("last", USUAL_CALLS), self.model.control, self.names)
+        view = events_view(self.views.events, wanted, query.get("last", USUAL_CALLS), self.model.control, self.views.names)
         return tagged_response(json_octets(view), JSON)
 
     def history_json(self, request: Request) -> Response:

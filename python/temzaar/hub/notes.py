@@ -4,8 +4,8 @@ import contextlib
 import os
 import socket
 import sys
+from collections import Counter
 from collections.abc import Callable
-from dataclasses import dataclass
 
 from temzaar.printable import printable
 
@@ -36,34 +36,27 @@ def warn(text: str) -> None:
     note(text, "WARN")
 
 
-@dataclass
-class Count:
-    """How many of a kind came since the first one, and what reports how many were too many."""
-    come: int
-    report: Callable[[int], None]
-
-
 class Quota:
     """`most` of a kind in `seconds` from the first one on."""
 
     def __init__(self, most: int, seconds: float) -> None:
         self.most, self.seconds = most, seconds
-        self.counts: dict[str, Count] = {}
+        # how many of each kind came since the first one, and what reports how many were too many
+        self.counts, self.reports = Counter[str](), dict[str, Callable[[int], None]]()
 
     def take(self, kind: str, report: Callable[[int], None]) -> bool:
         """Whether one more is within the limit. If not, `report` is called with the number of those that were not, when the time is over."""
-        count = self.counts.get(kind)
-        if count is None:
-            count = self.counts[kind] = Count(0, report)
+        if kind not in self.counts:
             asyncio.get_running_loop().call_later(self.seconds, self._end, kind)
-        count.come, count.report = count.come + 1, report
-        return count.come <= self.most
+        self.counts[kind] += 1
+        self.reports[kind] = report
+        return self.counts[kind] <= self.most
 
     def _end(self, kind: str) -> None:
         """The time of a kind is over."""
-        count = self.counts.pop(kind, None)
-        if count and count.come > self.most:
-            count.report(count.come - self.most)
+        too_many, report = self.counts.pop(kind, 0) - self.most, self.reports.pop(kind, None)
+        if report and too_many > 0:
+            report(too_many)
 
     def end(self) -> None:
         """The time of all kinds is over."""

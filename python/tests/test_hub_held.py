@@ -50,12 +50,23 @@ class AttackCase(HubCase):
 class Lines(AttackCase):
     """Lines that come faster than they are answered."""
 
-    async def test_empty_lines_on_many_connections(self) -> None:
-        await self.serve()
+    async def assert_harmless(self, octets: bytes) -> None:
+        """Sixteen strangers write octets, and an operator is answered in time. The history is as long as it may be."""
+        hub = await self.serve()
         operator = await self.connect()
+        hub.audit.recent.extend({"time": "now", "user": "x", "event": "answered", "line": f"move {number}", "reply": "ok"} for number in range(100))
         for _ in range(16):
-            await self.dial(self.tcp, b"\n" * 200_000)
+            await self.dial(self.tcp, octets)
         await self.assert_in_time(operator)
+
+    async def test_empty_lines(self) -> None:
+        await self.assert_harmless(b"\n" * 200_000)
+
+    async def test_lists_of_the_hub(self) -> None:
+        await self.assert_harmless(b"history 100\nwho\nhelp\n" * 2000)
+
+    async def test_octets_without_a_line(self) -> None:
+        await self.assert_harmless(b"z" * 4_000_000)
 
     async def test_the_loop_turns_after_each_line(self) -> None:
         """Also after the first lines of a user, which do not come at a pace."""
@@ -78,22 +89,6 @@ class Lines(AttackCase):
             operator.writer.write(b"\n" * 20)
             await wait_until(lambda: len(written) == 20)
         self.assertEqual(len(set(written)), 20)
-
-    async def test_lists_of_the_hub_on_many_connections(self) -> None:
-        hub = await self.serve()
-        operator = await self.connect()
-        for number in range(100):
-            hub.audit.recent.append({"time": "now", "user": "x", "event": "answered", "line": f"move {number}", "reply": "ok"})
-        for _ in range(16):
-            await self.dial(self.tcp, b"history 100\nwho\nhelp\n" * 2000)
-        await self.assert_in_time(operator)
-
-    async def test_octets_without_a_line(self) -> None:
-        await self.serve()
-        operator = await self.connect()
-        for _ in range(16):
-            await self.dial(self.tcp, b"z" * 4_000_000)
-        await self.assert_in_time(operator)
 
     async def test_questions_come_at_a_pace(self) -> None:
         """Of lines that a user sends at once some are answered at once, the others at their pace, over all connections."""

@@ -138,9 +138,6 @@ class Shown(WebCase):
                             ('dmr_hub_changes_total{command="stay",outcome="answered"}', 1), ("dmr_hub_audit_records_total", 2)):
             self.assertEqual(found.get(name), value, name)
         self.assertIn('dmr_hub_answer_duration_seconds_bucket{le="+Inf"}', found)
-        named = re.findall(r"^# TYPE (\S+) (\w+)$", answer.body.decode(), re.M)
-        self.assertEqual(len(named), len({name for name, _ in named}))
-        self.assertTrue(all(name.endswith("_total") == (kind == "counter") for name, kind in named), named)
         self.fake.stop()
         await wait_until(lambda: not hub.link.state.is_up)
         found = await self.metrics()

@@ -1,4 +1,5 @@
 """A served site with a hub before it, and carriers and radios that do what a test says: the scene of the page's tests and pictures."""
+import contextlib
 import os
 import pathlib
 import queue
@@ -53,7 +54,6 @@ class Player(threading.Thread):
         self.bursts: queue.SimpleQueue[bytes] = queue.SimpleQueue()
         self.talking: set[tuple[int, int]] = set()
         self.guard, self.is_stopped = threading.Lock(), False
-        self.fault: OSError | None = None
 
     def join_carrier(self, number: int) -> None:
         """A carrier connects."""
@@ -69,13 +69,12 @@ class Player(threading.Thread):
         self.bursts.put(pdus.random_access(pdus.TALKGROUP_VOICE, group, radio))
 
     def run(self) -> None:
-        try:
+        # the controller may end before it
+        with contextlib.suppress(OSError):
             while not self.is_stopped:
                 with self.guard:
                     self._poll()
                 time.sleep(PERIOD)
-        except OSError as fault:
-            self.fault = fault
 
     def _poll(self) -> None:
         """Polls each carrier once."""

@@ -4,6 +4,7 @@ import os
 import select
 import socket
 import struct
+import textwrap
 import time
 from collections.abc import Iterable, Iterator
 
@@ -64,14 +65,10 @@ class HubConsole(Console):
 def name_lines(bearers: Iterable[Bearer]) -> Iterator[str]:
     """The lines that ask the hub for names, none longer than a line may be."""
     for kind in Kind:
-        line = ""
-        for number in sorted(number for of_kind, number in bearers if of_kind is kind):
-            if line and len(f"{line} {number}") > LONGEST_LINE:
-                yield line
-                line = ""
-            line = f"{line or f'names {kind}'} {number}"
-        if line:
-            yield line
+        begins = f"names {kind} "
+        numbers = sorted(number for of_kind, number in bearers if of_kind is kind)
+        for line in textwrap.wrap(" ".join(map(str, numbers)), LONGEST_LINE - len(begins)):
+            yield begins + line
 
 
 def ask_names(console: Console, bearers: Iterable[Bearer]) -> Names:

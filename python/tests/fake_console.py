@@ -8,10 +8,20 @@ import time
 
 from temzaar.sitefile import ConsolePlace
 
+
+def slots(*states: str) -> list[str]:
+    """The reply to `slots` of a site of two carriers, whose slots have these states."""
+    return [*(f"slot {place // 2} {place % 2} {state}" for place, state in enumerate(states)), "end"]
+
+
+# Slots: all free; carrier 1 is down; the carrier of the control channel is down; a burst waits for carrier 1.
+FREE, DOWN, OFF_AIR = slots("control", "free", "free", "free"), slots("control", "free", "down", "down"), slots("control", "down", "free", "free")
+WAITING = slots("control", "free", "waiting", "free")
+# The reply to `status`, with the radios that are registered at first.
+STATUS = b"status carriers 2 radios 40 asks 0 lines 1 calls 2 fill aloha\n"
 # a site with two carriers, two calls and a request that waits
-STATUS = "status carriers 2 radios {radios} asks 0 lines 1 calls 2 fill aloha"
 REPLIES = {
-    "slots": ["slot 0 0 control", "slot 0 1 call", "slot 1 0 call", "slot 1 1 free", "end"],
+    "slots": slots("control", "call", "call", "free"),
     "calls 0": ["call 0 1 group 91 from 1001", "end"],
     "calls 1": ["call 1 0 radio 1002 from 1003", "end"],
     "lines 1": ["line 1 group 94 from 1004", "end"],
@@ -82,7 +92,7 @@ class FakeConsole:
         """The lines of the reply."""
         words = line.split()
         if words == ["status"]:
-            return [STATUS.format(radios=len(self.radios))]
+            return [STATUS.decode().rstrip().replace(" 40 ", f" {len(self.radios)} ")]
         if words[:1] == ["radios"] and len(words) == 2:
             return [*(f"radio {it}" for it in sorted(self.radios) if it >= int(words[1]))][:16] + ["end"]
         if words[:1] == ["drop"] and len(words) == 2 and words[1].isdecimal():

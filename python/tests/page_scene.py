@@ -1,12 +1,13 @@
 """A served site with a hub before it, and carriers and radios that do what a test says: the scene of the page's tests and pictures."""
+import contextlib
 import os
+import pathlib
 import queue
 import shutil
 import subprocess
 import tempfile
 import threading
 import time
-import urllib.error
 import urllib.request
 
 from temzaar import code, pdus
@@ -21,6 +22,29 @@ from tests.served_kit import Carrier
 PERIOD = 0.060
 
 
+def start_hub(folder: pathlib.Path, site: str, state_seconds: float, names: str) -> tuple[subprocess.Popen[bytes], str]:
+    """A hub of the site `Depot North` with a page, once it serves that, and the page's address. `site` is the text of the site file, and `names` that of the file
+    of names, if the hub is to have one. It reads the records `site.db` of the folder, and its user has the role full. AssertionError: it does not serve."""
+    port = free_ports(1)
+    base = f"http://127.0.0.1:{port}/"
+    plan, named, config = (folder / name for name in ("north.toml", "names.csv", "hub.toml"))
+    plan.write_text(site, encoding="utf-8")
+    if names:
+        named.write_text(names, encoding="utf-8")
+    config.write_text(f'[controller]\nsite_file = "{plan}"\nname = "Depot North"\nanswer_seconds = 20\nreconnect_seconds = 0.5\n[poll]\nstate_seconds = {state_seconds}\nradios_seconds = 1\n'
+                      f'[http]\nport = {port}\n[line_port]\nsocket = "{folder}/console.sock"\n[roles]\nfull_users = [{os.getuid()}]\n[audit]\nfile = "{folder}/audit.jsonl"\n'
+                      f'[records]\nfile = "{folder}/site.db"\nread_seconds = 0.2\n[names]\nfile = "{named if names else ""}"\nread_seconds = 0.2\n', encoding="utf-8")
+    hub = subprocess.Popen(tool_words("hub", "--config", str(config)), stderr=subprocess.DEVNULL, preexec_fn=ends_with_parent())
+    until = time.monotonic() + 60
+    while True:
+        try:
+            with urllib.request.urlopen(base, timeout=5):
+                return hub, base
+        except OSError:
+            assert hub.poll() is None and time.monotonic() < until, "the hub does not serve"
+            time.sleep(0.1)
+
+
 class Player(threading.Thread):
     """Carriers that poll each 60 ms. `send` has bursts for the control slot, one a poll; `talking` the carriers and slots on which somebody talks."""
 
@@ -30,17 +54,11 @@ class Player(threading.Thread):
         self.bursts: queue.SimpleQueue[bytes] = queue.SimpleQueue()
         self.talking: set[tuple[int, int]] = set()
         self.guard, self.is_stopped = threading.Lock(), False
-        self.fault: OSError | None = None
 
     def join_carrier(self, number: int) -> None:
         """A carrier connects."""
         with self.guard:
             self.carriers[number] = Carrier(self.site.row(number), self.site.link_version)
-
-    def lose_carrier(self, number: int) -> None:
-        """A carrier's connection ends."""
-        with self.guard:
-            self.carriers.pop(number).stream.close()
 
     def register(self, radio: int) -> None:
         """A radio registers."""
@@ -51,13 +69,12 @@ class Player(threading.Thread):
         self.bursts.put(pdus.random_access(pdus.TALKGROUP_VOICE, group, radio))
 
     def run(self) -> None:
-        try:
+        # the controller may end before it
+        with contextlib.suppress(OSError):
             while not self.is_stopped:
                 with self.guard:
                     self._poll()
                 time.sleep(PERIOD)
-        except OSError as fault:
-            self.fault = fault
 
     def _poll(self) -> None:
         """Polls each carrier once."""
@@ -80,42 +97,18 @@ class Scene:
     names, if the hub is to have one."""
 
     def __init__(self, program: str, site: Site, state_seconds: float = 0.25, names: str = "") -> None:
-        self.folder = tempfile.mkdtemp()
-        self.controller = Controller(program, site, variables={"STATE_DIRECTORY": self.folder})
+        self.folder = pathlib.Path(tempfile.mkdtemp())
+        self.controller = Controller(program, site, variables={"STATE_DIRECTORY": str(self.folder)})
         self.controller.wait_until_served()
-        self.port = free_ports(1)
-        self.base = f"http://127.0.0.1:{self.port}/"
-        self.names = os.path.join(self.folder, "names.csv") if names else ""
-        self.write_names(names)
-        self.hub = self._start_hub(site, state_seconds)
+        self.hub, self.base = start_hub(self.folder, site.text(), state_seconds, names)
         self.player = Player(site)
         self.player.start()
 
     def write_names(self, text: str) -> None:
-        """Writes the file of names again, if there is one."""
-        if self.names:
-            with open(f"{self.names}.new", "w", encoding="utf-8") as it:
-                it.write(text)
-            os.replace(f"{self.names}.new", self.names)
-
-    def _start_hub(self, site: Site, state_seconds: float) -> subprocess.Popen[bytes]:
-        """Starts the hub, and waits until it serves the page."""
-        plan, config = os.path.join(self.folder, "site.toml"), os.path.join(self.folder, "hub.toml")
-        with open(plan, "w", encoding="utf-8") as it:
-            it.write(site.text())
-        with open(config, "w", encoding="utf-8") as it:
-            it.write(f'[controller]\nsite_file = "{plan}"\nname = "Depot North"\nreconnect_seconds = 0.5\n[poll]\nstate_seconds = {state_seconds}\nradios_seconds = 1\n[http]\nport = {self.port}\n'
-                     f'[line_port]\nsocket = "{self.folder}/console.sock"\n[audit]\nfile = "{self.folder}/audit.jsonl"\n'
-                     f'[records]\nfile = "{self.folder}/site.db"\nread_seconds = 1\n[names]\nfile = "{self.names}"\nread_seconds = 0.2\n')
-        hub = subprocess.Popen(tool_words("hub", "--config", config), stderr=subprocess.DEVNULL, preexec_fn=ends_with_parent())
-        until = time.monotonic() + 30
-        while True:
-            try:
-                with urllib.request.urlopen(self.base + "v1/state.json", timeout=5):
-                    return hub
-            except (urllib.error.URLError, OSError):
-                assert hub.poll() is None and time.monotonic() < until, "the hub does not serve"
-                time.sleep(0.1)
+        """Writes the file of names again."""
+        new = self.folder / "names.new"
+        new.write_text(text, encoding="utf-8")
+        new.replace(self.folder / "names.csv")
 
     def stop_hub(self) -> None:
         """Ends the hub."""

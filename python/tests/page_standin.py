@@ -1,73 +1,97 @@
-"""A hub with a page over a stand-in for the console, and a headless Chromium: for tests of what the page shows of a site that a test makes up."""
-import os
+"""Tests of the hub's page in a headless Chromium. The proved program serves the site, or a test makes it up with a stand-in for the console."""
 import pathlib
 import re
-import subprocess
 import tempfile
-import time
 import unittest
-import urllib.request
 
-from temzaar.ports import free_ports
-from temzaar.process import ends_with_parent
+from temzaar.sitefile import FREE_PORTS, Site
 from tests.browser import Chromium, find_chromium
-from tests.fake_console import FakeConsole
+from tests.fake_console import FakeConsole, slots
 from tests.made_records import make_records
-from tests.support import tool_words
+from tests.page_scene import Scene, start_hub
+from tests.support import TWO_CARRIERS, program
 
-UP = ["slot 0 0 control", "slot 0 1 free", "slot 1 0 call", "slot 1 1 free", "end"]
-OFF_AIR = ["slot 0 0 control", "slot 0 1 down", "slot 1 0 free", "slot 1 1 free", "end"]
+UP = slots("control", "free", "call", "free")
+# Everything that is shown in text of a colour too near to that of its background: less than 4.5 to 1 (WCAG 2.2, 1.4.3).
+FAINT_TEXTS = """(() => {
+  const parse = (colour) => { const found = colour.match(/[\\d.]+/g).map(Number); return found.length > 3 ? found : [...found, 1]; };
+  const over = (top, below) => [0, 1, 2].map((n) => top[n] * top[3] + below[n] * (1 - top[3]));
+  const light = (colour) => { const [r, g, b] = colour.slice(0, 3).map((it) => { const part = it / 255; return part <= 0.03928 ? part / 12.92 : ((part + 0.055) / 1.055) ** 2.4; });
+    return 0.2126 * r + 0.7152 * g + 0.0722 * b; };
+  const backOf = (element) => { let back = null; const stack = []; for (let it = element; it; it = it.parentElement) { stack.push(parse(getComputedStyle(it).backgroundColor)); }
+    back = [255, 255, 255]; for (const colour of stack.reverse()) { back = over(colour, back); } return back; };
+  const faint = [];
+  for (const element of document.querySelectorAll("body *")) {
+    const own = [...element.childNodes].some((it) => it.nodeType === 3 && it.textContent.trim());
+    if (!own || !element.checkVisibility() || element.closest("svg, .unseen, dialog:not([open]), noscript") || element.disabled) { continue; }
+    const back = backOf(element); const text = over(parse(getComputedStyle(element).color), back);
+    const [high, low] = [light(text), light(back)].sort((a, b) => b - a); const ratio = (high + 0.05) / (low + 0.05);
+    if (ratio < 4.5) { faint.push(`${element.tagName} ${element.className} ${element.textContent.trim().slice(0, 30)}: ${ratio.toFixed(2)}`); }
+  }
+  return faint;
+})()"""
+# How far the page is wider than the window.
+EXCESS_WIDTH = "document.documentElement.scrollWidth - document.documentElement.clientWidth"
 
 
-class StandInPage(unittest.TestCase):
-    """A hub of the site `Depot North`, and a browser. `names` is the text of the file of names, if the hub is to have one."""
-    names = ""
+class PageCase(unittest.TestCase):
+    """A test with a browser. `base` is the address of the page."""
+    base: str
 
-    def setUp(self) -> None:
-        found = find_chromium()
-        folder = tempfile.TemporaryDirectory()
-        self.addCleanup(folder.cleanup)
-        self.folder = pathlib.Path(folder.name)
-        self.fake = FakeConsole()
-        self.addCleanup(self.fake.stop)
-        self.fake.replies["slots"] = UP
-        self.records = make_records(self.folder / "site.db", terms=2)
-        self.port = free_ports(1)
-        self.hub = self.start_hub()
-        self.browser = Chromium(found)
+    def open_browser(self) -> None:
+        """Opens a browser."""
+        self.browser = Chromium(find_chromium())
         self.addCleanup(self.browser.close)
-
-    def start_hub(self) -> subprocess.Popen[bytes]:
-        """Starts the hub. Its user has the role full."""
-        site, config = self.folder / "north.toml", self.folder / "hub.toml"
-        names = self.folder / "names.csv" if self.names else ""
-        if names:
-            names.write_text(self.names, encoding="utf-8")
-        site.write_text(f"console_port = {self.fake.port}\nsilence = 600\n", encoding="utf-8")
-        config.write_text(f'[controller]\nsite_file = "{site}"\nname = "Depot North"\nanswer_seconds = 20\n[poll]\nstate_seconds = 0.1\n[http]\nport = {self.port}\n[line_port]\nsocket = "{self.folder}/s"\n'
-                          f'[roles]\nfull_users = [{os.getuid()}]\n[audit]\nfile = "{self.folder}/audit.jsonl"\n[records]\nfile = "{self.records}"\nread_seconds = 0.2\n'
-                          f'[names]\nfile = "{names}"\n', encoding="utf-8")
-        hub = subprocess.Popen(tool_words("hub", "--config", str(config)), stderr=subprocess.DEVNULL, preexec_fn=ends_with_parent())
-        self.addCleanup(hub.wait, 20)
-        self.addCleanup(hub.terminate)
-        return hub
-
-    def open_page(self, width: int = 1280, dark: bool = False) -> None:
-        """Opens the page, once the hub serves it."""
-        address, until = f"http://127.0.0.1:{self.port}/", time.monotonic() + 60
-        while not self.is_served(address):
-            self.assertLess(time.monotonic(), until)
-            time.sleep(0.1)
-        self.browser.open(address, width, dark=dark)
-
-    def is_served(self, address: str) -> bool:
-        """Whether there is a page at an address. A browser would show a page of its own otherwise."""
-        try:
-            with urllib.request.urlopen(address, timeout=5):
-                return True
-        except OSError:
-            return False
 
     def wait_for_text(self, selector: str, pattern: str) -> None:
         """Waits until an element shows a text."""
         self.browser.wait_until(lambda: bool(re.search(pattern, self.browser.text(selector))), f"{selector}: {pattern}")
+
+    def assert_clear(self) -> None:
+        """No text is faint, and nothing is outside the window."""
+        self.assertEqual((self.browser.evaluate(FAINT_TEXTS), self.browser.evaluate(EXCESS_WIDTH)), ([], 0))
+
+    def assert_roles(self, *wanted: tuple[str, str]) -> None:
+        """A screen reader is given these roles and names."""
+        nodes = self.browser.call("Accessibility.getFullAXTree")["nodes"]
+        roles = {(it["role"]["value"], it.get("name", {}).get("value", "")) for it in nodes if not it["ignored"]}
+        self.assertEqual([it for it in wanted if it not in roles], [])
+
+    def assert_harmless(self) -> None:
+        """The browser reported no error, no text has become an element, and all requests are the page's own."""
+        self.assertEqual((self.browser.complaints(), self.browser.evaluate("document.querySelectorAll('img').length")), ([], 0))
+        self.assert_own_requests()
+
+    def assert_own_requests(self) -> None:
+        """Everything that the page asked for is the hub's, with a GET."""
+        self.assertEqual([it for it in self.browser.requested() if not it.startswith(self.base) and it != "about:blank"], [])
+        self.assertEqual({it["params"]["request"]["method"] for it in self.browser.events if it["method"] == "Network.requestWillBeSent"}, {"GET"})
+
+
+class ScenePage(PageCase):
+    """A site that the proved program serves, and a browser. `names` is the text of the file of names, if the hub is to have one, and `words` has keys of the site file."""
+    names, words = "", dict[str, int]()
+
+    def setUp(self) -> None:
+        built, _ = program("dmr_trunk"), find_chromium()
+        self.scene = Scene(built, Site(TWO_CARRIERS, first_port=FREE_PORTS, hang=8, **self.words), names=self.names)
+        self.addCleanup(self.scene.close)
+        self.base = self.scene.base
+        self.open_browser()
+
+
+class StandInPage(PageCase):
+    """A hub of the site `Depot North`, and a browser. `names` is the text of the file of names, if the hub is to have one."""
+    names = ""
+
+    def setUp(self) -> None:
+        find_chromium()
+        self.folder = pathlib.Path(self.enterContext(tempfile.TemporaryDirectory()))
+        self.fake = FakeConsole()
+        self.addCleanup(self.fake.stop)
+        self.fake.replies["slots"] = UP
+        self.records = make_records(self.folder / "site.db", terms=2)
+        hub, self.base = start_hub(self.folder, f"console_port = {self.fake.port}\nsilence = 600\n", 0.1, self.names)
+        self.addCleanup(hub.wait, 20)
+        self.addCleanup(hub.terminate)
+        self.open_browser()

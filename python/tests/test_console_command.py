@@ -1,7 +1,7 @@
 """The command dmr_console: in a pipe, with words, on a terminal; and what it completes; and siteview through the hub. A hub in this process answers."""
 import asyncio
-import dataclasses
 import os
+import pathlib
 import pty
 import select
 import subprocess
@@ -12,29 +12,28 @@ from unittest import mock
 
 from temzaar.cli.siteview import Prompt, View, plain_text
 from temzaar.console import Console
-from temzaar.hub.config import NamesKeys
-from temzaar.hub.service import Hub
 from temzaar.hubconsole import Completions, HubConsole, HubNames, ask_names, has_ended, name_lines
-from temzaar.names import NO_NAMES, FileNames, Kind
-from tests.fake_console import FakeConsole
-from tests.hub_support import FULL, NONE, HubCase, wait_until
-from tests.support import tool_words
+from temzaar.names import FileNames, Kind
+from tests.fake_console import STATUS, FakeConsole
+from tests.hub_support import NONE, HubCase, wait_until
+from tests.support import run_tool, tool_words
 from tests.test_siteview import Written
-
-STATUS = "status carriers 2 radios 40 asks 0 lines 1 calls 2 fill aloha\n"
 
 
 class ToolCase(HubCase):
     """A test that runs tools over a hub."""
 
+    def environment(self) -> dict[str, str]:
+        """The environment of the tools."""
+        return {**os.environ, "DMR_HUB_SOCKET": self.socket, "XDG_STATE_HOME": self.folder, "TERM": "dumb"}
+
     async def run_tool(self, name: str, *words: str, given: str = "") -> subprocess.CompletedProcess[str]:
         """Runs a tool to its end."""
-        environment = {**os.environ, "DMR_HUB_SOCKET": self.socket, "XDG_STATE_HOME": self.folder}
+        return await asyncio.to_thread(run_tool, name, *words, input=given, env=self.environment())
 
-        def run() -> subprocess.CompletedProcess[str]:
-            return subprocess.run(tool_words(name, *words), input=given, capture_output=True, text=True, check=False, timeout=60, env=environment)
-
-        return await asyncio.to_thread(run)
+    async def show_site(self, *words: str) -> subprocess.CompletedProcess[str]:
+        """Runs siteview once, with the site file, to its end."""
+        return await self.run_tool("siteview", "--site", self.site, "--once", *words)
 
 
 class Command(ToolCase):
@@ -44,18 +43,13 @@ class Command(ToolCase):
         """Runs the command to its end."""
         return await self.run_tool("console", *words, given=given)
 
-    async def test_lines_in_a_pipe(self) -> None:
+    async def test_lines_in_a_pipe_and_words(self) -> None:
         await self.start()
-        done = await self.run_console(given="status\nlines 1\nstay")
-        self.assertEqual((done.returncode, done.stdout, done.stderr), (0, STATUS + "line 1 group 94 from 1004\nend\nok\n", ""))
-        done = await self.run_console(given="drop 7\nstatus\n")
-        self.assertEqual((done.returncode, done.stdout), (3, "error not registered\n" + STATUS))
-
-    async def test_a_line_of_words(self) -> None:
-        await self.start()
-        done = await self.run_console("calls", "0")
-        self.assertEqual((done.returncode, done.stdout), (0, "call 0 1 group 91 from 1001\nend\n"))
-        self.assertEqual((await self.run_console("--socket", self.socket, "calls", "x")).returncode, 3)
+        shown = STATUS.decode()
+        for words, given, status, replies in (((), "status\nlines 1\nstay", 0, f"{shown}line 1 group 94 from 1004\nend\nok\n"), ((), "drop 7\nstatus\n", 3, f"error not registered\n{shown}"),
+                                              (("calls", "0"), "", 0, "call 0 1 group 91 from 1001\nend\n"), (("--socket", self.socket, "calls", "x"), "", 3, "error unknown command\n")):
+            done = await self.run_console(*words, given=given)
+            self.assertEqual((done.returncode, done.stdout, done.stderr), (status, replies, ""))
 
     async def test_faults(self) -> None:
         done = await self.run_console("status")
@@ -80,18 +74,10 @@ class Command(ToolCase):
         with open(os.path.join(self.folder, "dmr_console", "history"), encoding="utf-8") as it:
             self.assertIn("status \n", it.read())
 
-    async def start_with_names(self) -> Hub:
-        """A hub with names."""
-        path = os.path.join(self.folder, "names.csv")
-        with open(path, "w", encoding="utf-8") as it:
-            it.write("radio,1001,Süd 12\nradio,1003,Bus 13\ntalkgroup,91,Drivers\ncarrier,0,Mast North\n")
-        hub = await self.start(config=dataclasses.replace(self.config(), names=NamesKeys(path, 0.05)))
-        await wait_until(lambda: hub.book.version)
-        return hub
-
     async def test_names_on_a_terminal(self) -> None:
         """They are next to numbers on a terminal. In a pipe a program gets the octets of the controller and of the hub."""
-        await self.start_with_names()
+        self.write_names("radio,1001,Süd 12\nradio,1003,Bus 13\ntalkgroup,91,Drivers\ncarrier,0,Mast North\n")
+        await self.start()
         shown = await asyncio.to_thread(self.type_keys, ["calls 0\n", "slots\n", "radios 1001\n", "drop 1003\n", "history\n", "names radio 1001 1003\n", "names r\t7\n", "quit\n"])
         for text in ("call 0 [Mast North] 1 group 91 [Drivers] from 1001 [Süd 12]\r\n", "slot 0 [Mast North] 1 call\r\n", "radio 1001 [Süd 12]\r\nradio 1002\r\nradio 1003 [Bus 13]\r\n",
                      "answered: drop 1003 [Bus 13]: ok\r\n", "name radio 1001 Süd 12\r\nname radio 1003 Bus 13\r\nend\r\n", "names radio 7\r\n"):
@@ -103,9 +89,8 @@ class Command(ToolCase):
     def type_keys(self, pieces: list[str]) -> str:
         """What the command shows on a terminal on which these keys are typed, each piece after a prompt. AssertionError: it does not end well."""
         ours, theirs = pty.openpty()
-        environment = {**os.environ, "DMR_HUB_SOCKET": self.socket, "XDG_STATE_HOME": self.folder, "TERM": "dumb"}
         shown = b""
-        with subprocess.Popen(tool_words("console"), stdin=theirs, stdout=theirs, stderr=theirs, env=environment, start_new_session=True) as process:
+        with subprocess.Popen(tool_words("console"), stdin=theirs, stdout=theirs, stderr=theirs, env=self.environment(), start_new_session=True) as process:
             os.close(theirs)
             try:
                 for count, piece in enumerate(pieces, 1):
@@ -136,28 +121,31 @@ class Siteview(ToolCase):
 
     async def test_names(self) -> None:
         """Those of the hub, or those of the file that the words name."""
-        path = os.path.join(self.folder, "names.csv")
-        with open(path, "w", encoding="utf-8") as it:
-            it.write("radio,1001,Bus 12\ntalkgroup,94,Night\ncarrier,1,Mast South\nx\n")
-        hub = await self.start(config=dataclasses.replace(self.config(), names=NamesKeys(path, 0.05)))
-        await wait_until(lambda: hub.book.version)
-        shown, noted = ("group 91 from 1001 [Bus 12]\n", "   1 [Mast South]  radio 1002 from 1003", "   1     group 94 [Night] from 1004\n"), f"siteview: {path}: line 4: "
-        for words, said in (((), ""), (("--names", path), noted)):
-            done = await self.run_tool("siteview", "--site", self.site, "--once", *words)
+        self.write_names("radio,1001,Bus 12\ntalkgroup,94,Night\ncarrier,1,Mast South\nx\n")
+        await self.start()
+        shown, noted = ("group 91 from 1001 [Bus 12]\n", "   1 [Mast South]  radio 1002 from 1003", "   1     group 94 [Night] from 1004\n"), f"siteview: {self.names}: line 4: "
+        for words, said in (((), ""), (("--names", str(self.names)), noted)):
+            done = await self.show_site(*words)
             self.assertEqual((done.returncode, done.stderr[:len(noted)]), (0, said))
             for text in shown:
                 self.assertIn(text, done.stdout)
-        done = await self.run_tool("siteview", "--site", self.site, "--once", "--names", path + "x")
-        self.assertEqual((done.returncode, done.stderr), (1, f"siteview: {path}x: No such file or directory\n"))
+        done = await self.show_site("--names", f"{self.names}x")
+        self.assertEqual((done.returncode, done.stderr), (1, f"siteview: {self.names}x: No such file or directory\n"))
 
     async def test_the_name_of_the_site(self) -> None:
         """It is that of the hub's config, or that of the words."""
-        config = self.config()
         name = "Süd \\ 1"
-        await self.start(config=dataclasses.replace(config, controller=dataclasses.replace(config.controller, name=name)))
+        await self.start(config=self.config(site_name=name))
         for words, shown in (((), f"site {name}   127.0.0.1:{self.fake.port}   "), (("--name", "North"), f"site North   127.0.0.1:{self.fake.port}   ")):
-            done = await self.run_tool("siteview", "--site", self.site, *words, "--once")
+            done = await self.show_site(*words)
             self.assertEqual((done.returncode, done.stderr, done.stdout[:len(shown)]), (0, "", shown))
+
+    async def test_the_end_of_a_connection_is_seen(self) -> None:
+        await self.start(config=self.config({"idle_seconds": 3.0}))
+        console = await self.open_console()
+        self.assertFalse(has_ended(console))
+        self.assertEqual(await asyncio.to_thread(console.ask, "stay"), ["ok"])
+        await wait_until(lambda: has_ended(console))
 
     async def test_a_hub_of_another_console(self) -> None:
         await self.start()
@@ -165,38 +153,39 @@ class Siteview(ToolCase):
         other.radios.clear()
         self.addCleanup(other.stop)
         self.write_site(other.port)
-        done = await self.run_tool("siteview", "--site", self.site, "--once")
-        self.assertIn("radios 0 ", done.stdout)
+        self.assertIn("radios 0 ", (await self.show_site()).stdout)
 
     async def test_a_user_without_a_role(self) -> None:
         await self.start(NONE)
-        done = await self.run_tool("siteview", "--site", self.site, "--once")
+        done = await self.show_site()
         self.assertEqual(done.returncode, 1)
         self.assertRegex(done.stderr, rf"^siteview: the hub {self.socket}: the user \S+ has no role here\n$")
 
     async def test_without_a_hub(self) -> None:
-        done = await self.run_tool("siteview", "--site", self.site, "--once")
-        self.assertIn("radios 40 ", done.stdout)
+        self.assertIn("radios 40 ", (await self.show_site()).stdout)
         done = await self.run_tool("siteview", "--hub", self.socket, "--once")
         self.assertEqual((done.returncode, done.stderr), (1, f"siteview: cannot connect to the hub {self.socket}: No such file or directory\n"))
+
+    async def open_console(self) -> HubConsole:
+        """A connection to the hub."""
+        console = await asyncio.to_thread(HubConsole, self.socket)
+        self.addCleanup(console.close)
+        return console
 
     async def test_one_answer_is_missing(self) -> None:
         """siteview shows why, and goes on."""
         await self.start()
-        console = await asyncio.to_thread(HubConsole, self.socket)
-        view = View(console, "here")
+        view = View(await self.open_console(), "here")
         for reason in ("no answer: no answer in 1 s", "the hub is busy: the line was not sent in time"):
             with mock.patch.object(Console, "ask", return_value=[f"error {reason}"]):
                 view.look()
             self.assertEqual((view.picture, view.away), (None, reason))
         await asyncio.to_thread(view.look)
         self.assertIsNotNone(view.picture)
-        console.close()
 
     async def test_the_controller_is_away(self) -> None:
         hub = await self.start()
-        console = await asyncio.to_thread(HubConsole, self.socket)
-        view = View(console, "here")
+        view = View(await self.open_console(), "here")
         await asyncio.to_thread(view.look)
         self.assertIsNotNone(view.picture)
         self.fake.stop()
@@ -204,7 +193,7 @@ class Siteview(ToolCase):
         await asyncio.to_thread(view.look)
         rows = list(view.rows())
         self.assertRegex(rows[1][0][0], "^the controller is away: cannot connect")
-        prompt = Prompt(console)
+        prompt = Prompt(view.console)
         await asyncio.to_thread(prompt.take_keys, "slots\n")
         self.assertRegex(prompt.answer[0], "^the controller is away: ")
         again = FakeConsole(self.fake.port)
@@ -212,7 +201,6 @@ class Siteview(ToolCase):
         await wait_until(lambda: hub.link.state.is_up)
         await asyncio.to_thread(view.look)
         self.assertIsNotNone(view.picture)
-        console.close()
 
 
 class Completed(unittest.TestCase):
@@ -237,35 +225,11 @@ class Completed(unittest.TestCase):
         self.assertEqual(Completions(self.console).find("drop ", "1"), [])
 
 
-class Connected(HubCase):
-    """The connection."""
-
-    async def test_an_end_is_seen(self) -> None:
-        hub = await self.start(FULL, self.config({"idle_seconds": 3.0}))
-        console = await asyncio.to_thread(HubConsole, self.socket)
-        self.assertFalse(has_ended(console))
-        self.assertEqual(await asyncio.to_thread(console.ask, "stay"), ["ok"])
-        while hub.desk.sessions:
-            await asyncio.sleep(0.05)
-        await asyncio.sleep(0.1)
-        self.assertTrue(has_ended(console))
-        console.close()
-
-
-class Replies:
-    """A console whose replies to `names` are written down. `asked` has its lines."""
-
-    def __init__(self, *rows: str) -> None:
-        self.rows, self.asked = list(rows), list[str]()
-
-    def ask(self, line: str) -> list[str]:
-        """The rows."""
-        self.asked.append(line)
-        return self.rows
-
-
 class NamesOfTheHub(unittest.TestCase):
-    """What a client asks the hub for names, and what it takes for one."""
+    """What a client asks the hub for names, and what it takes for one. The console's replies are written down."""
+
+    def setUp(self) -> None:
+        self.console = mock.Mock(Console)
 
     def test_lines(self) -> None:
         """None is longer than a line may be, and each number is asked for once."""
@@ -274,43 +238,37 @@ class NamesOfTheHub(unittest.TestCase):
         self.assertEqual(sorted(int(word) for it in lines for word in it.split()[2:]), sorted([0, 91, *range(16777200, 16777216)]))
 
     def test_what_is_no_name_is_left_out(self) -> None:
-        console = Replies("name radio 1001 S\\xc3\\xbcd", "name radio 1002 a]b", "name radio 1003 \\x1b[2J", "name radio 1004", "name bus 1 a", "name radio x a", "names radio 5 a", "error unknown command", "")
-        names = ask_names(console, {(Kind.RADIO, 1001)})  # type: ignore[arg-type]
+        self.console.ask.return_value = ["name radio 1001 S\\xc3\\xbcd", "name radio 1002 a]b", "name radio 1003 \\x1b[2J", "name radio 1004", "name bus 1 a", "name radio x a", "names radio 5 a",
+                                         "error unknown command", ""]
+        names = ask_names(self.console, {(Kind.RADIO, 1001)})
         self.assertEqual((len(names), names.name_of(Kind.RADIO, 1001)), (1, "Süd"))
-        self.assertEqual(len(ask_names(Replies("error unknown command"), {(Kind.RADIO, 1)})), 0)  # type: ignore[arg-type]
+        self.console.ask.return_value = ["error unknown command"]
+        self.assertEqual(len(ask_names(self.console, {(Kind.RADIO, 1)})), 0)
 
     def test_the_hub_is_asked_again_after_some_seconds(self) -> None:
-        console = Replies("name radio 1001 Bus 12")
-        source = HubNames(console)  # type: ignore[arg-type]
+        self.console.ask.return_value = ["name radio 1001 Bus 12"]
+        source, asked = HubNames(self.console), self.console.ask.call_args_list
         with mock.patch("temzaar.hubconsole.time.monotonic", return_value=100.0) as clock:
             for texts in (["group 91 from 1001"], ["group 91 from 1001"], ["radio 1001 from 1001"]):
                 self.assertEqual(source.find(texts).name_of(Kind.RADIO, 1001), "Bus 12")
-            self.assertEqual(console.asked, ["names radio 1001", "names talkgroup 91"])
+            self.assertEqual(asked, [mock.call("names radio 1001"), mock.call("names talkgroup 91")])
             source.find(["radio 1002 from 1001"])
-            self.assertEqual(console.asked[2:], ["names radio 1002"])
+            self.assertEqual(asked[2:], [mock.call("names radio 1002")])
             clock.return_value = 110.5
             source.find(["group 91 from 1001"])
-        self.assertEqual(console.asked[3:], ["names radio 1001", "names talkgroup 91"])
+        self.assertEqual(asked[3:], [mock.call("names radio 1001"), mock.call("names talkgroup 91")])
 
     def test_a_file_that_changes(self) -> None:
         """It is read again; of a file that cannot be used nothing is taken, and the picture says so."""
-        with tempfile.TemporaryDirectory() as folder:
-            path = os.path.join(folder, "names.csv")
-            write_file(path, "radio,1003,Bus 12\n")
-            source = FileNames(path)
-            view = View(Written(), "here", source)
-            for text, shown, fault in (("", "[Bus 12]", ""), ("radio,1003,Tram 7\n", "[Tram 7]", ""), ("nothing\n", "[Tram 7]", f"names: {path}: line 1: not kind,number,name"), ("radio,1003,Bus 9\n", "[Bus 9]", "")):
-                if text:
-                    write_file(f"{path}.new", text)
-                    os.replace(f"{path}.new", path)
-                view.look()
-                rows = plain_text(view.rows())
-                self.assertIn(f"radio 1002 from 1003 {shown}", rows)
-                self.assertEqual((source.fault[:len(fault)], bool(source.fault), source.fault in rows), (fault, bool(fault), True))
-        self.assertEqual(len(NO_NAMES), 0)
-
-
-def write_file(path: str, text: str) -> None:
-    """Writes a file."""
-    with open(path, "w", encoding="utf-8") as it:
-        it.write(text)
+        path = pathlib.Path(self.enterContext(tempfile.TemporaryDirectory()), "names.csv")
+        path.write_text("radio,1003,Bus 12\n", encoding="utf-8")
+        source = FileNames(str(path))
+        view = View(Written(), "here", source)
+        for text, shown, fault in (("", "[Bus 12]", ""), ("radio,1003,Tram 7\n", "[Tram 7]", ""), ("nothing\n", "[Tram 7]", f"names: {path}: line 1: not kind,number,name"), ("radio,1003,Bus 9\n", "[Bus 9]", "")):
+            if text:
+                path.with_suffix(".new").write_text(text, encoding="utf-8")
+                os.replace(path.with_suffix(".new"), path)
+            view.look()
+            rows = plain_text(view.rows())
+            self.assertIn(f"radio 1002 from 1003 {shown}", rows)
+            self.assertEqual((source.fault[:len(fault)], bool(source.fault), source.fault in rows), (fault, bool(fault), True))

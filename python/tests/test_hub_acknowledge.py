@@ -1,35 +1,31 @@
 """Events at the hub's console and over HTTP: who may acknowledge them, what the audit log has of that, and what is known after a restart of the hub."""
 import asyncio
 import contextlib
-import dataclasses
 import json
 import os
-import pathlib
 import re
 import shutil
 import sqlite3
 import time
 
-from temzaar.hub.config import Config
 from temzaar.hub.service import Hub
 from temzaar.hubconsole import Completions, HubConsole
 from temzaar.ports import free_ports
-from tests.hub_support import READ, Operator, wait_until
+from temzaar.siteevents import EventKind
+from tests.fake_console import DOWN, FREE, OFF_AIR, slots
+from tests.hub_support import FULL, READ, Operator, Rules, make_recent_records, wait_until
 from tests.made_records import NOON, make_records
-from tests.test_hub_board import BoardCase
+from tests.test_hub_web import WebCase
 
-UP = ["slot 0 0 control", "slot 0 1 free", "slot 1 0 free", "slot 1 1 free", "end"]
-DOWN = ["slot 0 0 control", "slot 0 1 free", "slot 1 0 down", "slot 1 1 down", "end"]
-OFF_AIR = ["slot 0 0 control", "slot 0 1 down", "slot 1 0 free", "slot 1 1 free", "end"]
 TIME = r"\d{4}-\d\d-\d\dT\d\d:\d\d:\d\d\.\d{3}Z"
 
 
-class EventCase(BoardCase):
+class EventCase(WebCase):
     """A hub over a site of two carriers without calls."""
 
     async def asyncSetUp(self) -> None:
         await super().asyncSetUp()
-        self.fake.replies["slots"] = UP
+        self.fake.replies["slots"] = FREE
 
     async def rows(self, operator: Operator, line: bytes = b"events") -> list[str]:
         """The rows of a reply, without their numbers and with `T` for times."""
@@ -39,27 +35,22 @@ class EventCase(BoardCase):
 
     async def lose_and_return(self, hub: Hub, *slots: list[str]) -> None:
         """The site shows each of these slots, one after the other, and all of it is up again."""
-        for it in (*slots, UP):
+        for it in (*slots, FREE):
             await self.show(hub, slots=it)
 
-    def moved_records(self, seconds: float = 600) -> tuple[pathlib.Path, int]:
-        """A file of records whose last term ended some seconds ago, and by how many milliseconds it is later than the made one."""
-        path = make_records(pathlib.Path(self.folder, "site.db"))
-        later = int(1000 * (time.time() - seconds)) - NOON - 160_000
-        with contextlib.closing(sqlite3.connect(path)) as conn, conn:
-            conn.execute("UPDATE terms SET ended_ms = ended_ms + ?", (later,))
-            conn.execute("UPDATE events SET at_ms = at_ms + ?", (later,))
-            conn.execute("UPDATE calls SET began_ms = began_ms + ?, ended_ms = ended_ms + ?", (later, later))
-        return path, later
+    async def serve_and_lose(self, *slots: list[str], rules: Rules = FULL) -> tuple[Hub, Operator]:
+        """A hub and an operator; the site has shown each of these slots, and all of it is up again."""
+        hub = await self.serve(rules=rules)
+        operator = await self.connect()
+        await self.lose_and_return(hub, *slots)
+        return hub, operator
 
 
 class AtTheConsole(EventCase):
     """The lines `events` and `acknowledge`."""
 
     async def test_a_carrier(self) -> None:
-        hub = await self.serve()
-        operator = await self.connect()
-        await self.lose_and_return(hub, DOWN, UP, OFF_AIR)
+        _, operator = await self.serve_and_lose(DOWN, FREE, OFF_AIR)
         wanted = ["T - hub_started: the hub was started", "T waits carrier_lost: carrier 1 was lost; over T", "T - carrier_back: carrier 1 came up",
                   "T waits control_lost: no control channel: carrier 0 was lost, and the site was off the air; over T", "T - control_back: the control channel is back: carrier 0 came up"]
         self.assertEqual(await self.rows(operator), wanted)
@@ -76,32 +67,23 @@ class AtTheConsole(EventCase):
         self.assertEqual((await self.rows(operator, b"history"), self.changes_asked()), ([], []))
 
     async def test_lines_that_are_wrong(self) -> None:
-        hub = await self.serve()
-        operator = await self.connect()
-        await self.lose_and_return(hub, DOWN)
-        for line, reply in ((b"events x", "error unknown command"), (b"events 0", "error unknown command"), (b"events 101", "error unknown command"), (b"events 1 2", "error unknown command"),
-                            (b"acknowledge", "error unknown command"), (b"acknowledge x", "error unknown command"), (b"acknowledge 2 all", "error unknown command"), (b"acknowledge -1", "error unknown command"),
-                            (b"acknowledge 123456789", "error unknown command"), (b"acknowledge 9", "error there is no event 9"), (b"acknowledge 1", "error event 1 does not wait for an acknowledgement"),
-                            (b"acknowledge 2 3", "error event 3 does not wait for an acknowledgement")):
-            self.assertEqual((await operator.ask(line)).decode(), f"{reply}\n", line)
+        hub, operator = await self.serve_and_lose(DOWN)
+        unknown = (b"events x", b"events 0", b"events 101", b"events 1 2", b"acknowledge", b"acknowledge x", b"acknowledge 2 all", b"acknowledge -1", b"acknowledge 123456789")
+        for line, reply in (*((it, "unknown command") for it in unknown), (b"acknowledge 9", "there is no event 9"), (b"acknowledge 1", "event 1 does not wait for an acknowledgement"),
+                            (b"acknowledge 2 3", "event 3 does not wait for an acknowledgement")):
+            self.assertEqual((await operator.ask(line)).decode(), f"error {reply}\n", line)
         self.assertEqual((self.records(), len(hub.events.waiting())), ([], 1))
         self.assertEqual(len(await self.rows(operator, b"acknowledge  02 2\r")), 1)
 
     async def test_the_role_read(self) -> None:
-        self.port = free_ports(1)
-        hub = await self.start(READ, self.config(http={"port": self.port}))
-        await wait_until(lambda: hub.model.picture)
-        operator = await self.connect()
-        await self.lose_and_return(hub, DOWN)
+        hub, operator = await self.serve_and_lose(DOWN, rules=READ)
         self.assertEqual(len(await self.rows(operator)), 3)
         self.assertEqual(await operator.ask(b"acknowledge all"), b"error not allowed: this needs the role full\n")
         self.assertEqual([(it["event"], it["line"], it["role"]) for it in self.records()], [("refused", "acknowledge all", "read")])
         self.assertEqual(len(hub.events.waiting()), 1)
 
     async def test_an_audit_log_that_cannot_be_written(self) -> None:
-        hub = await self.serve()
-        operator = await self.connect()
-        await self.lose_and_return(hub, DOWN)
+        hub, operator = await self.serve_and_lose(DOWN)
         os.rename(self.folder, self.folder + ".away")
         self.addCleanup(shutil.rmtree, self.folder + ".away", ignore_errors=True)
         self.assertEqual(await operator.ask(b"acknowledge 2"), b"error not done: the audit log cannot be written\n")
@@ -109,18 +91,8 @@ class AtTheConsole(EventCase):
         os.rename(self.folder + ".away", self.folder)
         self.assertEqual(len(await self.rows(operator, b"acknowledge 2")), 1)
 
-    async def test_commands(self) -> None:
-        await self.serve()
-        operator = await self.connect()
-        for line in (b"drop 1001", b"drop 9", b"slots", b"move 7"):
-            await operator.ask(line)
-        user = self.records()[0]["user"]
-        self.assertEqual((await self.rows(operator))[1:], [f"T - command: drop 1001 by {user}: ok", f"T - command: drop 9 by {user}: not registered", f"T - command: move 7 by {user}: ok"])
-
     async def test_help_and_completion(self) -> None:
-        hub = await self.serve()
-        operator = await self.connect()
-        await self.lose_and_return(hub, DOWN, UP, DOWN)
+        _, operator = await self.serve_and_lose(DOWN, FREE, DOWN)
         self.assertIn(b"help acknowledge N ..: ", await operator.ask(b"help"))
 
         def complete() -> list[list[str]]:
@@ -132,48 +104,44 @@ class AtTheConsole(EventCase):
         self.assertEqual(await asyncio.to_thread(complete), [["end", "events"], ["acknowledge"], ["2", "4", "all"], ["all"], ["2", "4"], []])
 
     async def test_the_controller_goes_away(self) -> None:
-        hub = await self.serve()
-        operator = await self.connect()
+        operator = await self.operate()
         self.fake.stop()
-        await wait_until(lambda: hub.events.waiting())
+        await wait_until(lambda: self.hub.events.waiting())
         self.assertRegex((await self.rows(operator))[1], "^T waits controller_away: the controller was away: .")
 
 
 class AfterARestart(EventCase):
-    """What is known once the hub was started again."""
+    """What is known once the hub was started again. It reads records that end ten minutes ago."""
 
-    async def restart(self, config: Config) -> Hub:
-        """Another hub in the place of the first."""
+    async def asyncSetUp(self) -> None:
+        await super().asyncSetUp()
+        make_recent_records(self.db, 600)
+
+    async def begin(self) -> Operator:
+        """An operator of a hub that has read the records, and knows that all carriers are up."""
+        hub = await self.start(config=self.config(records=self.db))
+        await wait_until(lambda: hub.records and hub.records.last and all(it.ended_ms for it in hub.events.kinds[EventKind.CARRIER_LOST]))
+        return await self.connect()
+
+    async def restart(self) -> Operator:
+        """The same of another hub, in the place of the first."""
         self.hub.stop()
         await self.task
-        return await self.begin(config)
-
-    async def begin(self, config: Config) -> Hub:
-        """A hub that has read the records."""
-        self.hub = await self.start(config=config)
-        await wait_until(lambda: self.hub.model.picture and self.hub.records and self.hub.records.last)
-        return self.hub
+        return await self.begin()
 
     async def test_what_was_acknowledged(self) -> None:
         """The records are of the last hour. Carrier 1 was lost, and the hub sees it up. What was acknowledged is not to be acknowledged again, and the rest is."""
-        path, _ = self.moved_records()
-        self.port = free_ports(1)
-        config = self.config(records=str(path), http={"port": self.port})
-        hub = await self.begin(config)
-        operator = await self.connect()
+        operator = await self.begin()
         late = ": the audit log that the hub read begins later"
         recorded = ["T waits controller_started: the controller was started", "T - control_back: the control channel is back: carrier 0 came up", "T - carrier_back: carrier 1 came up",
                     f"T waits past_hub: end 1 0, past the hub: ok{late}", "T - refused: radio 1002 was refused: Group_Not_Allowed, about 99", "T waits carrier_lost: carrier 1 was lost; over T",
                     "T - refused: radio 1002 was refused: Group_Not_Allowed, about 99", f"T waits past_hub: move 7, past the hub: ok{late}",
                     "T waits controller_started: the controller was started; no records of the 70.0 s before", "T - control_back: the control channel is back: carrier 0 came up",
                     "T - refused: radio 1004 was refused: Called_Party_Busy, about 1002", f"T waits past_hub: drop 999, past the hub: not registered{late}", f"T waits past_hub: stay, past the hub: ok{late}"]
-        await wait_until(lambda: all(it.ended_ms for it in hub.events.kinds["carrier_lost"]))  # type: ignore[index]
         self.assertEqual([it for it in await self.rows(operator) if "hub_started" not in it], recorded)
-        numbers = [it.number for it in hub.events.waiting()]
+        numbers = [it.number for it in self.hub.events.waiting()]
         await self.rows(operator, b"acknowledge " + " ".join(map(str, numbers[:3])).encode())
-        hub = await self.restart(config)
-        operator = await self.connect()
-        await wait_until(lambda: all(it.ended_ms for it in hub.events.kinds["carrier_lost"]))  # type: ignore[index]
+        operator = await self.restart()
         rows = [it for it in await self.rows(operator) if "hub_started" not in it]
         user = self.records()[0]["user"]
         wanted = [*recorded]
@@ -182,29 +150,24 @@ class AfterARestart(EventCase):
         # the audit log has a record now, and still begins later than these
         self.assertEqual(rows, wanted)
         await self.rows(operator, b"acknowledge all")
-        hub = await self.restart(config)
-        self.assertEqual(([*hub.events.waiting()], len(self.records())), ([], 2))
+        await self.restart()
+        self.assertEqual((self.hub.events.waiting(), len(self.records())), ([], 2))
 
     async def test_commands_through_the_hub(self) -> None:
         """The records have the hub's own command, and another one."""
-        path, _ = self.moved_records()
-        self.port = free_ports(1)
-        config = self.config(records=str(path), http={"port": self.port})
-        hub = await self.begin(config)
-        operator = await self.connect()
+        operator = await self.begin()
         await self.rows(operator, b"acknowledge all")
         await operator.ask(b"drop 1001")
         asked = int(1000 * time.time())
-        with contextlib.closing(sqlite3.connect(path)) as conn, conn:
+        with contextlib.closing(sqlite3.connect(self.db)) as conn, conn:
             conn.execute("INSERT INTO terms SELECT 4, ?, tick_ms, last_tick + ticks, entries, heard, requests, noise, active, polls, ticks, commands, grants, late_entries, registrations, refusals, begun, "
                          "ended, most_lines FROM terms WHERE number = 3", (asked + 30,))
             for number, at_ms, radio in ((17, asked - 10, 1001), (18, asked + 15, 1001), (19, asked + 20, 1002)):
                 conn.execute("INSERT INTO events VALUES (?, 4, 1, ?, 'drop_command', NULL, NULL, ?, NULL, NULL, NULL, 'done')", (number, at_ms, radio))
-        await wait_until(lambda: hub.records and hub.records.last and hub.records.last.number == 4)
+        await wait_until(lambda: self.hub.records and self.hub.records.last and self.hub.records.last.number == 4)
         wanted = [f"T - command: drop 1001 by {self.records()[0]['user']}: ok", "T waits past_hub: drop 1001, past the hub: ok", "T waits past_hub: drop 1002, past the hub: ok"]
         self.assertEqual([it for it in await self.rows(operator, b"events 100") if "drop 100" in it], wanted)
-        hub = await self.restart(config)
-        operator = await self.connect()
+        operator = await self.restart()
         self.assertEqual([it for it in await self.rows(operator, b"events 100") if "drop 100" in it], wanted)
 
 
@@ -216,9 +179,7 @@ class OverHttp(EventCase):
         return [(it["number"], it["kind"]) for it in (await self.view(f"/v1/events.json{query}"))["events"]]
 
     async def test_a_list(self) -> None:
-        hub = await self.serve()
-        operator = await self.connect()
-        await self.lose_and_return(hub, DOWN)
+        _, operator = await self.serve_and_lose(DOWN)
         self.assertEqual(await self.events(), [(2, "carrier_lost"), (3, "carrier_back"), (1, "hub_started")])
         self.assertEqual(await self.events("?last=1"), [(2, "carrier_lost")])
         view = await self.view("/v1/events.json")
@@ -231,7 +192,9 @@ class OverHttp(EventCase):
                                ("?to=1000", []), ("?refusals=no", [2, 3, 1])):
             self.assertEqual([number for number, _ in await self.events(query)], numbers, query)
         self.assertFalse((await self.view("/v1/events.json?from=1000"))["complete"])
+        self.assertEqual((await self.metrics())["dmr_site_events_unacknowledged"], 1)
         await operator.ask(b"acknowledge 2")
+        self.assertEqual((await self.metrics())["dmr_site_events_unacknowledged"], 0)
         event = next(it for it in (await self.view("/v1/events.json"))["events"] if it["number"] == 2)
         self.assertEqual((event["waits"], event["acknowledged"]["user"]), (False, self.records()[0]["user"]))
         self.assertRegex(event["acknowledged"]["time"], f"^{TIME}$")
@@ -247,18 +210,11 @@ class OverHttp(EventCase):
         answer = await self.send(f"POST /v1/events.json HTTP/1.1\r\nHost: localhost:{self.port}\r\n\r\n".encode())
         self.assertEqual((answer.status, len(hub.events.waiting())), (405, 1))
 
-    async def test_a_metric(self) -> None:
-        hub = await self.serve()
-        self.assertIn("\ndmr_site_events_unacknowledged 0\n", (await self.get("/metrics")).body.decode())
-        await self.lose_and_return(hub, DOWN)
-        self.assertIn("\ndmr_site_events_unacknowledged 1\n", (await self.get("/metrics")).body.decode())
-
     async def test_calls_of_a_time(self) -> None:
         """Calls that were active at some time between two, by the records that `made_records` has, and one that is active."""
-        path = make_records(pathlib.Path(self.folder, "site.db"))
-        self.fake.replies["slots"] = ["slot 0 0 control", "slot 0 1 free", "slot 1 0 call", "slot 1 1 free", "end"]
-        hub = await self.serve(records=str(path))
-        await wait_until(lambda: hub.records and hub.records.last and hub.model.calls.count == 1)
+        self.fake.replies["slots"] = slots("control", "free", "call", "free")
+        hub = await self.serve(records=make_records(self.db))
+        self.assertEqual(hub.model.calls.count, 1)
         for query, numbers, is_complete in (
                 ("", [(1, False), (5, True), (4, True), (3, True), (2, True), (1, True)], True), ("last=6", [(1, False), (5, True), (4, True), (3, True), (2, True), (1, True)], True),
                 ("last=5", [(1, False), (5, True), (4, True), (3, True), (2, True)], False), ("from=2026-11-27T11:59:21Z&to=2026-11-27T12:00:06.000Z", [(3, True), (2, True)], True),
@@ -268,27 +224,10 @@ class OverHttp(EventCase):
             view = await self.view(f"/v1/calls.json?{query}")
             self.assertEqual(([(it["number"], it["recorded"]) for it in view["calls"]], view["complete"]), (numbers, is_complete), query)
 
-    async def test_queries_that_are_refused(self) -> None:
-        await self.serve()
-        says = "not a time with a zone, as 2026-11-27T08:00:00Z, or milliseconds since 1970"
-        for path in ("calls", "events"):
-            for text in ("", "noon", "2026-11-27", "2026-11-27T12:00:00", "12:00Z", "-1", "1e12", "253402300800000", "9" * 5000, "%FF", "2026-13-01T00:00:00Z", "1969-12-31T23:59:59Z", "0001-01-01T00:00:00%2B23:59"):
-                answer = await self.get(f"/v1/{path}.json?to={text}")
-                self.assertEqual((answer.status, answer.body.decode()), (400, f"to: {says}\n"), text)
-        for query, said in (("kind=x", "kind: unknown key: there is from, to, refusals, last"), ("refusals=maybe", 'refusals: not "yes" or "no"'), ("last=0", "last: out of range: 1 to 1000")):
-            self.assertEqual((await self.get(f"/v1/events.json?{query}")).body.decode(), f"{said}\n")
-        await self.assert_unharmed()
-
     async def test_names(self) -> None:
         """They are next to numbers in the text, and have keys of their own."""
-        names = os.path.join(self.folder, "names.csv")
-        with open(names, "w", encoding="utf-8") as it:
-            it.write("carrier,1,Mast South\n")
-        self.port = free_ports(1)
-        config = self.config(http={"port": self.port})
-        hub = await self.start(config=dataclasses.replace(config, names=dataclasses.replace(config.names, file=names, read_seconds=0.1)))
-        await wait_until(lambda: hub.model.picture and hub.book.names)
-        await self.lose_and_return(hub, DOWN)
+        self.write_names("carrier,1,Mast South\n")
+        await self.serve_and_lose(DOWN)
         event = (await self.view("/v1/events.json"))["events"][0]
         self.assertEqual((event["text"], event["carrier_name"]), ("carrier 1 [Mast South] was lost", "Mast South"))
 
@@ -297,11 +236,12 @@ class Many(EventCase):
     """A hundred thousand rows of events, and the hub answers."""
 
     async def test_an_operator_meanwhile(self) -> None:
-        path, later = self.moved_records()
-        with contextlib.closing(sqlite3.connect(path)) as conn, conn:
+        later = make_recent_records(self.db, 600)
+        with contextlib.closing(sqlite3.connect(self.db)) as conn, conn:
             conn.executemany("INSERT INTO events VALUES (?, 3, 1, ?, ?, 1, NULL, ?, 99, NULL, 47, NULL)",
                              ((number, NOON + later + 100_000 + number // 2, ("refused", "was_lost", "came_up")[number % 3], 1 + number // 3) for number in range(100, 100_100)))
-        hub = await self.serve(records=str(path))
+        self.port = free_ports(1)
+        hub = await self.start(config=self.config(http={"port": self.port}, records=self.db))
         operator = await self.connect()
         slowest = 0.0
         while not (hub.records and hub.records.last):

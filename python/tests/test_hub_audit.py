@@ -9,15 +9,14 @@ from unittest import mock
 
 from temzaar.hub.audit import TAIL_OCTETS, AuditFault, AuditLog
 from temzaar.hub.config import AuditKeys
-from tests.hub_support import HubCase
+from tests.hub_support import HubCase, wait_until
 
 
 class Written(unittest.TestCase):
     """The file."""
 
     def setUp(self) -> None:
-        self.folder = tempfile.mkdtemp()
-        self.addCleanup(shutil.rmtree, self.folder, ignore_errors=True)
+        self.folder = self.enterContext(tempfile.TemporaryDirectory())
         self.path = os.path.join(self.folder, "audit.jsonl")
 
     def log(self, **keys: int) -> AuditLog:
@@ -90,15 +89,6 @@ class Written(unittest.TestCase):
             it.write("[" * 400_000 + "\n" + '{"n":1}\n')
         self.assertEqual(asyncio.run(log.read_last()), [{"n": 1}])
 
-    def test_who_hears_of_a_record(self) -> None:
-        """The caller is called once the record is on the disk, and not if it cannot be written."""
-        log, told = self.log(), list[object]()
-        log.on_record = told.append
-        with mock.patch("os.fsync", side_effect=OSError(28, "No space left on device")):
-            self.assertRaises(AuditFault, asyncio.run, log.record({"n": 1}))
-        asyncio.run(log.record({"n": 2}))
-        self.assertEqual(told, [{"n": 2}])
-
     def test_refusals_do_not_displace_commands(self) -> None:
         log = self.log()
         log.append = lambda _: None  # type: ignore[method-assign, assignment]
@@ -110,27 +100,25 @@ class Written(unittest.TestCase):
         self.assertEqual(len(log.last(100)), 101)
 
     def test_a_fault_and_its_end(self) -> None:
-        log = self.log()
+        """Who hears of records hears of one once it is on the disk, and not if it cannot be written."""
+        log, told = self.log(), list[object]()
+        log.on_record = told.append
         with mock.patch("os.fsync", side_effect=OSError(28, "No space left on device")):
             self.assertRaisesRegex(AuditFault, "No space left on device", asyncio.run, log.record({"n": 1}))
         self.assertIsNotNone(log.fault)
         asyncio.run(log.record({"n": 2}))
         self.assertIsNone(log.fault)
-        self.assertEqual([it["n"] for it in log.recent], [2])
+        self.assertEqual(([*log.recent], told), ([{"n": 2}], [{"n": 2}]))
 
 
 class Recorded(HubCase):
     """Commands of operators."""
 
     async def test_a_command_is_recorded_before_it_is_sent(self) -> None:
-        await self.start()
-        operator = await self.connect()
+        operator = await self.operate()
         self.fake.is_hung = True
         operator.writer.write(b"drop 1001\n")
-        for _ in range(500):
-            if os.path.exists(self.audit) and self.records():
-                break
-            await asyncio.sleep(0.01)
+        await wait_until(self.records)
         asked = self.records()
         self.assertEqual([(it["event"], it["line"], it["reply"]) for it in asked], [("asked", "drop 1001", None)])
         self.fake.is_hung = False
@@ -140,26 +128,17 @@ class Recorded(HubCase):
         self.assertEqual((answered["uid"], answered["pid"], answered["role"]), (os.getuid(), os.getpid(), "full"))
         self.assertRegex(answered["time"], r"^\d{4}-\d\d-\d\dT\d\d:\d\d:\d\d\.\d{3}Z$")
 
-    async def test_questions_are_not_recorded(self) -> None:
-        await self.start()
-        operator = await self.connect()
-        for line in (b"status", b"slots", b"help", b"nonsense"):
-            await operator.ask(line)
-        self.assertEqual(os.path.getsize(self.audit), 0)
-
     async def test_what_cannot_be_recorded_is_not_done(self) -> None:
-        hub = await self.start()
-        operator = await self.connect()
+        operator = await self.operate()
         os.rename(self.folder, self.folder + ".away")
         self.addCleanup(shutil.rmtree, self.folder + ".away", ignore_errors=True)
         self.assertEqual(await operator.ask(b"drop 1001"), b"error not done: the audit log cannot be written\n")
-        self.assertEqual((self.changes_asked(), hub.counts.audit_faults.get()), ([], 1))
+        self.assertEqual((self.changes_asked(), self.hub.counts.audit_faults.get()), ([], 1))
         os.rename(self.folder + ".away", self.folder)
         self.assertEqual(await operator.ask(b"drop 1001"), b"ok\n")
 
     async def test_control_characters_do_not_reach_the_log_or_the_history(self) -> None:
-        await self.start()
-        operator = await self.connect()
+        operator = await self.operate()
         await operator.ask(b'drop \x1b[2J"\xff')
         with open(self.audit, encoding="ascii") as it:
             self.assertEqual([json.loads(line)["line"] for line in it], ['drop \\x1b[2J"\\xff'] * 2)

@@ -2,11 +2,9 @@
 away, and queries that are refused."""
 import json
 import re
-from typing import Any
 from unittest import mock
 
 from temzaar.hub import pagefiles, service
-from temzaar.hub.service import Hub
 from temzaar.hub.web import BROWSER_RULES, CONTENT_POLICY
 from temzaar.ports import free_ports
 from tests.hub_support import wait_until
@@ -14,29 +12,7 @@ from tests.support import TOP
 from tests.test_hub_web import Answer, WebCase
 
 
-class BoardCase(WebCase):
-    """A hub with an HTTP port, and readers of its JSON."""
-
-    async def view(self, path: str) -> Any:
-        """The JSON of a path."""
-        answer = await self.get(path)
-        self.assertEqual((answer.status, answer.headers["content-type"]), (200, "application/json"), answer.body)
-        return json.loads(answer.body)
-
-    async def calls(self, query: str = "") -> list[tuple[int, str, int, int, bool]]:
-        """Seen calls: number, kind, target, source, and whether each has ended."""
-        view = await self.view(f"/v1/calls.json{query}")
-        return [(it["number"], it["kind"], it["target"], it["source"], it["ended"] is not None) for it in view["calls"]]
-
-    async def show(self, hub: Hub, **replies: list[str]) -> None:
-        """Has the controller answer otherwise, and waits for two pictures of that: the first may have been begun before."""
-        self.fake.replies.update({name.replace("_", " "): lines for name, lines in replies.items()})
-        for _ in range(2):
-            before = hub.model.seen
-            await wait_until(lambda before=before: hub.model.seen is not before)
-
-
-class Files(BoardCase):
+class Files(WebCase):
     """The files of the page."""
 
     async def test_types_and_headers(self) -> None:
@@ -108,7 +84,7 @@ class Files(BoardCase):
         self.assertIn('"temzaar.hub" = ["page/*"]', (TOP / "python" / "pyproject.toml").read_text(encoding="utf-8"))
 
 
-class Parts(BoardCase):
+class Parts(WebCase):
     """The parts of the site that the page asks for."""
 
     async def test_the_state(self) -> None:
@@ -140,7 +116,7 @@ class Parts(BoardCase):
         self.assertEqual((set(history["pictures"]), set(history["figures"]["slots_in_use"]["mean"])), ({0}, {None}))
 
 
-class Calls(BoardCase):
+class Calls(WebCase):
     """Seen calls."""
 
     async def test_a_call_ends_and_another_begins(self) -> None:
@@ -157,12 +133,7 @@ class Calls(BoardCase):
         self.assertEqual((first["carrier"], first["slot"], first["older"], first["end_seen"], first["seconds"] > 0), (0, 1, True, True, True))
         self.assertEqual({view["calls"][0][name] for name in ("ended", "end_seen", "seconds")}, {None})
         self.assertLess(first["began"], first["ended"])
-
-    async def test_filters(self) -> None:
-        hub = await self.serve()
-        await self.show(hub, calls_0=["call 0 1 group 1002 from 1003", "end"])
-        for query, numbers in (("", [3, 2, 1]), ("?radio=1003", [3, 2]), ("?radio=1002", [2]), ("?group=1002", [3]), ("?group=91", [1]), ("?group=91&radio=1003", []), ("?radio=1003&last=1", [3]),
-                               ("?last=2", [3, 2]), ("?radio=5", [])):
+        for query, numbers in (("?radio=1003", [2]), ("?group=92", [3]), ("?group=91&radio=1003", []), ("?last=2", [3, 2])):
             self.assertEqual([it[0] for it in await self.calls(query)], numbers, query)
 
     async def test_the_controller_goes_away_and_comes_back(self) -> None:
@@ -173,16 +144,17 @@ class Calls(BoardCase):
         self.assertEqual([(it["number"], it["older"], it["end_seen"]) for it in view["calls"]], [(4, True, None), (3, True, None), (2, True, False), (1, True, False)])
 
     async def test_bad_queries_are_refused_by_name(self) -> None:
+        """Each path has its own keys."""
         await self.serve()
-        for path, said in (("/v1/calls.json?radio=x", "radio: not a whole number: 1 to 16777215"), ("/v1/calls.json?size=5", "size: unknown key: there is radio, group, from, to, last"),
-                           ("/v1/calls.json?last=0", "last: out of range: 1 to 1000"), ("/v1/history.json?span=year", 'span: not "hour" or "day"'),
-                           ("/v1/history.json?span=hour&span=day", "span: given twice"), ("/v1/history.json?drop=1001", "drop: unknown key: there is span")):
-            answer = await self.get(path)
+        for path, said in (("calls.json?radio=x", "radio: not a whole number: 1 to 16777215"), ("calls.json?size=5", "size: unknown key: there is radio, group, from, to, last"),
+                           ("history.json?drop=1001", "drop: unknown key: there is span"), ("radios.json?last=1", "last: unknown key: there is begins, most"),
+                           ("names.json?look=a", "look: unknown key: there is find, most"), ("events.json?kind=x", "kind: unknown key: there is from, to, refusals, last")):
+            answer = await self.get(f"/v1/{path}")
             self.assertEqual((answer.status, answer.body.decode(), answer.headers["content-type"]), (400, f"{said}\n", "text/plain; charset=utf-8"))
         await self.assert_unharmed()
 
 
-class History(BoardCase):
+class History(WebCase):
     """Samples."""
 
     async def test_the_hour_and_the_day(self) -> None:

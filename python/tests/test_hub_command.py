@@ -1,6 +1,6 @@
 """The command dmr_hub as a process: words, config faults, signals; and over a controller that is served."""
 import os
-import shutil
+import pathlib
 import signal
 import socket
 import subprocess
@@ -8,27 +8,27 @@ import tempfile
 import time
 import unittest
 
-from temzaar.cli.hub import config_of, read_words
-from temzaar.hub.config import RecordsKeys
+from temzaar.cli.hub import config_of, main, read_words
+from temzaar.hub.config import NamesKeys, RecordsKeys
 from temzaar.process import Controller
 from temzaar.sitefile import FREE_PORTS, Site
 from tests.fake_console import FakeConsole
-from tests.support import TWO_CARRIERS, program, run_tool, tool_words
+from tests.support import TWO_CARRIERS, call_tool, program, tool_words
 
 
 class HubProcess(unittest.TestCase):
     """A folder with a config file, and a hub."""
 
     def setUp(self) -> None:
-        self.folder = tempfile.mkdtemp()
-        self.addCleanup(shutil.rmtree, self.folder)
+        self.folder = self.enterContext(tempfile.TemporaryDirectory())
         self.config, self.socket = os.path.join(self.folder, "hub.toml"), os.path.join(self.folder, "console.sock")
 
-    def write(self, more: str = "", site: str = TWO_CARRIERS) -> None:
-        """Writes the config file."""
-        with open(self.config, "w", encoding="utf-8") as it:
-            it.write(f'[controller]\nsite_file = "{site}"\n[line_port]\nsocket = "{self.socket}"\n[audit]\nfile = "{self.folder}/audit.jsonl"\n'
-                     f"[roles]\nfull_users = [{os.getuid()}]\n{more}")
+    def write(self, more: str = "", site: str = "") -> None:
+        """Writes the config file, and the site file."""
+        path = pathlib.Path(self.folder, "site.toml")
+        path.write_text(site, encoding="utf-8")
+        pathlib.Path(self.config).write_text(f'[controller]\nsite_file = "{path}"\n[line_port]\nsocket = "{self.socket}"\n[audit]\nfile = "{self.folder}/audit.jsonl"\n'
+                                             f"[roles]\nfull_users = [{os.getuid()}]\n{more}", encoding="utf-8")
 
     def start(self) -> subprocess.Popen[str]:
         """A hub that listens."""
@@ -63,24 +63,20 @@ class Command(HubProcess):
     """Words, faults and signals."""
 
     def test_check(self) -> None:
-        self.write()
-        done = run_tool("hub", "--check", "--config", self.config)
-        self.assertEqual((done.returncode, done.stdout, done.stderr), (0, "", ""))
-        self.write("[http]\nprot = 1\n")
-        done = run_tool("hub", "--check", "--config", self.config)
-        self.assertEqual((done.returncode, done.stderr), (1, "dmr_hub: config file: http.prot: unknown key\n"))
-        done = run_tool("hub", "--config", self.folder + "/none")
-        self.assertEqual((done.returncode, done.stderr), (1, f"dmr_hub: config file: cannot read {self.folder}/none: No such file or directory\n"))
-        self.assertEqual(run_tool("hub", "--no-such-word").returncode, 2)
+        none = f"{self.folder}/none"
+        for text, words, status, said in (("", ("--check", "--config", self.config), 0, ""), ("[http]\nprot = 1\n", ("--check", "--config", self.config), 1, "http.prot: unknown key"),
+                                          ('[records]\nfile = "a.db"\n', ("--check", "--config", self.config), 1, "records.file: not an absolute path, or empty"),
+                                          ("", ("--config", none), 1, f"cannot read {none}: No such file or directory")):
+            self.write(text)
+            done = call_tool(main, *words)
+            self.assertEqual((done.returncode, done.stdout, done.stderr), (status, "", f"dmr_hub: config file: {said}\n" if said else ""))
+        self.assertEqual(call_tool(main, "--no-such-word").returncode, 2)
 
     def test_it_serves_until_a_signal(self) -> None:
         fake = FakeConsole()
         self.addCleanup(fake.stop)
-        site = os.path.join(self.folder, "site.toml")
-        with open(site, "w", encoding="utf-8") as it:
-            it.write(f"console_port = {fake.port}\nsilence = 600\n")
+        self.write(site=f"console_port = {fake.port}\nsilence = 600\n")
         for number in (signal.SIGTERM, signal.SIGINT):
-            self.write(site=site)
             hub = self.start()
             self.assertEqual(self.ask(b"stay", b"ok"), b"ok\n")
             hub.send_signal(signal.SIGHUP)
@@ -92,15 +88,14 @@ class Command(HubProcess):
             self.assertNotIn("Traceback", rest)
             self.assertFalse(os.path.exists(self.socket))
 
-    def test_records_of_the_words(self) -> None:
-        """The word goes before the config file. A relative path begins at the folder in which the hub is started."""
-        self.write('[records]\nfile = "/var/lib/a.db"\n')
-        for words, file in ((["--config", self.config], "/var/lib/a.db"), (["--config", self.config, "--records", "/b.db"], "/b.db"),
-                            (["--config", self.config, "--records", "c.db"], os.path.join(os.getcwd(), "c.db"))):
-            self.assertEqual(config_of(read_words(words)).records, RecordsKeys(file=file))
-        self.write('[records]\nfile = "a.db"\n')
-        done = run_tool("hub", "--config", self.config, "--check")
-        self.assertEqual((done.returncode, done.stderr), (1, "dmr_hub: config file: records.file: not an absolute path, or empty\n"))
+    def test_files_of_the_words(self) -> None:
+        """A word goes before the config file. A relative path begins at the folder in which the hub is started."""
+        self.write('[records]\nfile = "/var/lib/a.db"\n[names]\nfile = "/a/names.csv"\n')
+        for words, records, names in (([], "/var/lib/a.db", "/a/names.csv"), (["--records", "/b.db"], "/b.db", "/a/names.csv"),
+                                      (["--records", "c.db", "--names", "b.csv"], os.path.join(os.getcwd(), "c.db"), os.path.join(os.getcwd(), "b.csv"))):
+            config = config_of(read_words(["--config", self.config, *words]))
+            self.assertEqual((config.records, config.names), (RecordsKeys(file=records), NamesKeys(file=names)))
+        self.assertEqual(call_tool(main, "--check", "--config", self.config, "--names", "c.csv").returncode, 0)
 
 
 class OverTheController(HubProcess):
@@ -109,10 +104,7 @@ class OverTheController(HubProcess):
     def test_lines_of_several_operators(self) -> None:
         built = program("dmr_trunk")
         site = Site(TWO_CARRIERS, first_port=FREE_PORTS, silence=5)
-        path = os.path.join(self.folder, "site.toml")
-        with open(path, "w", encoding="utf-8") as it:
-            it.write(site.text())
-        self.write(site=path)
+        self.write(site=site.text())
         with Controller(built, site) as controller:
             controller.wait_until_served()
             self.start()

@@ -1,9 +1,4 @@
 """The control channel and the polls as the hub shows them: a site that is off the air, a carrier that does not poll, and terms that do not come."""
-import contextlib
-import json
-import pathlib
-import sqlite3
-import time
 import unittest
 from datetime import datetime
 
@@ -15,13 +10,10 @@ from temzaar.hub.termwatch import LEAST_SECONDS, TermWatch
 from temzaar.picture import Picture
 from temzaar.records import COUNTS, RecordedTerm
 from temzaar.sitefile import ConsolePlace
-from tests.hub_support import wait_until
+from tests.fake_console import OFF_AIR, WAITING
+from tests.hub_support import make_recent_records, wait_until
 from tests.made_records import NOON, add_term, make_records
-from tests.test_hub_records import samples_of
 from tests.test_hub_web import WebCase
-
-OFF_AIR = ["slot 0 0 control", "slot 0 1 down", "slot 1 0 free", "slot 1 1 free", "end"]
-WAITING = ["slot 0 0 control", "slot 0 1 free", "slot 1 0 waiting", "slot 1 1 free", "end"]
 
 
 class Served(WebCase):
@@ -29,68 +21,49 @@ class Served(WebCase):
 
     async def test_no_control_channel(self) -> None:
         hub = await self.serve(HealthKeys(carrier_seconds=0))
-        self.assertEqual(samples_of((await self.get("/metrics")).body.decode())['dmr_site_control_up{carrier="0"}'], 1)
+        self.assertEqual((await self.metrics())['dmr_site_control_up{carrier="0"}'], 1)
         self.fake.replies["slots"] = OFF_AIR
         await wait_until(lambda: not hub.model.carriers[0].is_up)
-        view = json.loads((await self.get("/v1/site.json")).body)
-        control = view["state"]["control"]
-        self.assertEqual((control["carrier"], control["up"], control["since"]), (0, False, view["state"]["carriers"][0]["since"]))
-        self.assertEqual(samples_of((await self.get("/metrics")).body.decode())['dmr_site_control_up{carrier="0"}'], 0)
-        answer = await self.get("/healthz")
-        self.assertEqual(answer.status, 503)
-        self.assertRegex(answer.body.decode(), r"^no control channel: carrier 0 is down since \S+Z\n$")
+        state = (await self.view("/v1/site.json"))["state"]
+        self.assertEqual((state["control"]["carrier"], state["control"]["up"], state["control"]["since"]), (0, False, state["carriers"][0]["since"]))
+        self.assertEqual((await self.metrics())['dmr_site_control_up{carrier="0"}'], 0)
+        await self.until_health(503, r"^no control channel: carrier 0 is down since \S+Z\n$")
 
     async def test_a_burst_that_waits(self) -> None:
         hub = await self.serve(HealthKeys(carrier_seconds=0))
         self.fake.replies["slots"] = WAITING
         await wait_until(lambda: hub.model.waiting)
-        self.assertEqual(json.loads((await self.get("/v1/site.json")).body)["state"]["unsent"], [])
+        self.assertEqual((await self.view("/v1/site.json"))["state"]["unsent"], [])
         # as if it had been seen to wait for a minute
         hub.model.waiting = {slot: Moment(since.wall - 60, since.steady - 60) for slot, since in hub.model.waiting.items()}
-        unsent = json.loads((await self.get("/v1/site.json")).body)["state"]["unsent"]
+        unsent = (await self.view("/v1/site.json"))["state"]["unsent"]
         self.assertEqual([(it["carrier"], it["slot"]) for it in unsent], [(1, 0)])
-        self.assertGreaterEqual(samples_of((await self.get("/metrics")).body.decode())["dmr_site_longest_unsent_seconds"], 60)
-        answer = await self.get("/healthz")
-        self.assertEqual(answer.status, 503)
-        self.assertRegex(answer.body.decode(), r"^slot 0 of carrier 1 waits for a poll since \S+Z\n$")
-
-    async def test_names(self) -> None:
-        hub = await self.serve()
-        for path in ("/v1/site.json", "/v1/state.json"):
-            self.assertEqual(json.loads((await self.get(path)).body)["site"], hub.config.controller.site_name)
+        self.assertGreaterEqual((await self.metrics())["dmr_site_longest_unsent_seconds"], 60)
+        await self.until_health(503, r"^slot 0 of carrier 1 waits for a poll since \S+Z\n$")
 
     async def test_records_that_stop(self) -> None:
         """The last term is of another year: after a minute without another one the next is overdue."""
-        path = make_records(pathlib.Path(self.folder, "site.db"), terms=2)
-        hub = await self.serve(HealthKeys(records="yes"), records=str(path))
-        await wait_until(lambda: hub.model.watch.last)
+        hub = await self.serve(HealthKeys(records="yes"), make_records(self.db, terms=2))
         self.assertEqual((await self.get("/healthz")).body, b"ok\n")
-        found = json.loads((await self.get("/v1/state.json")).body)["records"]
-        self.assertEqual(found, {"until": "2026-11-27T12:00:30.000Z", "overdue": False, "fault": None, "missing_polls": None})
+        self.assertEqual((await self.view("/v1/state.json"))["records"], {"until": "2026-11-27T12:00:30.000Z", "overdue": False, "fault": None, "missing_polls": None})
         watch = hub.model.watch
         assert watch.since
         watch.since, watch.due = Moment(watch.since.wall - 61, watch.since.steady - 61), 15_001.0
-        self.assertTrue(json.loads((await self.get("/v1/state.json")).body)["records"]["overdue"])
-        self.assertEqual(samples_of((await self.get("/metrics")).body.decode())["dmr_site_records_overdue"], 1)
-        answer = await self.get("/healthz")
-        self.assertEqual((answer.status, answer.body), (503, b"no records since 2026-11-27T12:00:30Z\n"))
-        add_term(path, 3)
+        self.assertTrue((await self.view("/v1/state.json"))["records"]["overdue"])
+        self.assertEqual((await self.metrics())["dmr_site_records_overdue"], 1)
+        await self.until_health(503, "^no records since 2026-11-27T12:00:30Z\n$")
+        add_term(self.db, 3)
         await wait_until(lambda: watch.last and watch.last.number == 3)
-        self.assertFalse(json.loads((await self.get("/v1/state.json")).body)["records"]["overdue"])
-
+        self.assertFalse((await self.view("/v1/state.json"))["records"]["overdue"])
 
     async def test_gaps(self) -> None:
         """The times without records are counted, and the charts have those of their span. Here the third term ended 30 s ago, and the gap is from 160 to 90 s ago."""
-        path = make_records(pathlib.Path(self.folder, "site.db"))
-        later = int(1000 * (time.time() - 30)) - NOON - 160_000
-        with contextlib.closing(sqlite3.connect(path)) as conn, conn:
-            conn.execute("UPDATE terms SET ended_ms = ended_ms + ?", (later,))
-        hub = await self.serve(records=str(path))
-        await wait_until(lambda: hub.model.watch.last)
-        found = samples_of((await self.get("/metrics")).body.decode())
+        later = make_recent_records(self.db)
+        await self.serve(records=self.db)
+        found = await self.metrics()
         self.assertEqual((found["dmr_site_record_gaps_total"], found["dmr_site_unrecorded_seconds_total"]), (1, 70))
         for span in ("hour", "day"):
-            view = json.loads((await self.get(f"/v1/history.json?span={span}")).body)["recorded"]
+            view = (await self.view(f"/v1/history.json?span={span}"))["recorded"]
             times = [view["from"], *(it[edge] for it in view["gaps"] for edge in ("from", "to")), view["until"]]
             seconds = [datetime.fromisoformat(it).timestamp() - (NOON + later) / 1000 for it in times]
             for at, wanted in zip(seconds, (-60, 30, 100, 160), strict=True):
@@ -174,7 +147,3 @@ class Watched(unittest.TestCase):
         self.assertEqual((model.longest_unsent(Moment(9, 9)), [*model.unsent(Moment(9, 9))], [*model.unsent(Moment(9.1, 4 + UNSENT_SECONDS + 0.1))]), (5, [], [(0, 1)]))
         model.begin()
         self.assertEqual(model.longest_unsent(Moment(20, 20)), 0)
-
-
-if __name__ == "__main__":
-    unittest.main()

@@ -1,6 +1,5 @@
 """The hub's documents and files: docs/HUB.md has its metrics, and deploy/ its config file, with each key, and its unit."""
 import dataclasses
-import pathlib
 import re
 import tomllib
 import unittest
@@ -17,13 +16,12 @@ from temzaar.hub.model import SiteModel
 from temzaar.hub.moment import Moment
 from temzaar.hub.newrecords import EVENT_SECONDS
 from temzaar.hub.pagefiles import load_page
-from temzaar.hub.recordsamples import KINDS, RecordSamples
-from temzaar.hub.samples import FIGURES, Samples
+from temzaar.hub.samples import FIGURES, KINDS, Samples, count_spans
 from temzaar.hub.seencalls import MOST_ENDED, CallLog, SeenCall
 from temzaar.hub.session import HELP
 from temzaar.names import MOST_PRINTED, NO_NAMES, Kind, names_of
 from temzaar.siteevents import MOST_OF_A_KIND, NEED_ACKNOWLEDGEMENT, EventKind, SiteEvent
-from tests.hub_support import HubCase, wait_until
+from tests.hub_support import HubCase, array_octets, wait_until
 from tests.made_records import make_records
 from tests.support import TOP, metric_rows, read_document, table_rows
 
@@ -66,10 +64,8 @@ class Documented(unittest.TestCase):
         call = call_view(SeenCall(1, (0, 1), Parties("group", 91, 1001), Moment(0, 0), False), NO_NAMES)
         named = " ".join(cell for row in table_rows(HUB[HUB.index("### Seen calls"):], "| key | value") for cell in row)
         self.assertEqual([name for name in call if not re.search(rf"\b{name}\b", named)], [])
-        samples = sum(span.octets() for span in Samples().spans.values())
-        counts = sum(span.octets() for span in RecordSamples().spans.values())
         memory = dict(table_rows(HUB, "| what | limit |"))["memory of the page"]  # type: ignore[arg-type]
-        for text in ("files, about 70,000 octets", f"samples, {samples:,}", f"the last {MOST_ENDED:,} calls that ended, {len(CallLog().ended.octets):,}", f"their counts {counts:,}"):
+        for text in ("files, about 70,000 octets", f"samples, {array_octets(Samples()):,}", f"the last {MOST_ENDED:,} calls that ended, {len(CallLog().ended.octets):,}", f"their counts {array_octets(count_spans()):,}"):
             self.assertIn(text, memory)
         self.assertIn(f"at most, {MOST_ENDED:,}", HUB)
         self.assertEqual(round(sum(len(it.body) for it in load_page().values()), -4), 70_000)
@@ -125,9 +121,8 @@ class Metrics(HubCase):
     """The table of metrics."""
 
     async def test_metrics(self) -> None:
-        records = make_records(pathlib.Path(self.folder, "site.db"))
-        records.with_name("site.lock").write_text("dmr_trunk 0.1.0\n", encoding="utf-8")
-        hub = await self.start(config=self.config(records=str(records)))
+        make_records(self.db).with_name("site.lock").write_text("dmr_trunk 0.1.0\n", encoding="utf-8")
+        hub = await self.start(config=self.config(records=self.db))
         await wait_until(lambda: hub.model.picture is not None and hub.records and hub.records.last)
         series = hub.views.all_series()
         shown = [(it.name, "histogram" if isinstance(it, Histogram) else it.kind) for it in series]

@@ -115,45 +115,35 @@ class Once(FeedCase):
 class Commands(FeedCase):
     """Commands with their users, and those that went past the hub."""
 
-    def take(self, *records: dict[str, Any]) -> None:
-        """Takes records of the audit log."""
-        for it in records:
-            self.feed.take_audit(it)
+    def rows_after(self, *steps: dict[str, Any] | SiteEvent) -> list[str]:
+        """The rows after records of the audit log and recorded commands, in the order in which they came."""
+        self.setUp()
+        for it in steps:
+            if isinstance(it, dict):
+                self.feed.take_audit(it)
+            else:
+                self.feed.take_recorded([it])
+        return self.rows()
 
     def test_through_the_hub(self) -> None:
-        self.take(asked(0), asked(20, event="answered", reply="ok"), asked(1_000, "drop 9", "2"), asked(1_020, "drop 9", "2", "answered", "error not registered"),
-                  asked(2_000, "stay", "3"), asked(2_900, "stay", "3", "unanswered", "error no answer: cut"), asked(3_000, "move 7", "4"), asked(3_000, "move 7", "4", "not sent", "error not done: away"))
-        self.feed.take_recorded([command(-50), command(1_010, "drop 9", 2), command(2_000, "stay", 3)])
-        self.assertEqual(self.rows(), ["- command: drop 1001 by alice: ok", "- command: drop 9 by alice: not registered", "- command: stay by alice: no answer"])
+        rows = self.rows_after(
+            asked(0), asked(20, event="answered", reply="ok"), asked(1_000, "drop 9", "2"), asked(1_020, "drop 9", "2", "answered", "error not registered"), asked(2_000, "stay", "3"),
+            asked(2_900, "stay", "3", "unanswered", "error no answer: cut"), asked(3_000, "move 7", "4"), asked(3_000, "move 7", "4", "not sent", "error not done: away"),
+            command(-50), command(1_010, "drop 9", 2), command(2_000, "stay", 3))
+        self.assertEqual(rows, ["- command: drop 1001 by alice: ok", "- command: drop 9 by alice: not registered", "- command: stay by alice: no answer"])
         self.assertEqual(self.log.waiting(), [])
+        # lines as they were typed
+        self.assertEqual(self.rows_after(asked(0, " drop  01001\\x0d"), command(0)), ["- command: drop 1001 by alice"])
 
     def test_past_the_hub(self) -> None:
-        self.take(asked(0))
-        self.feed.take_recorded([command(10), command(400, row=2), command(500, "drop 1002", 3), command(20_000, row=4)])
-        self.assertEqual(self.rows(), ["- command: drop 1001 by alice", "waits past_hub: drop 1001, past the hub: ok", "waits past_hub: drop 1002, past the hub: ok",
-                                       "waits past_hub: drop 1001, past the hub: ok"])
-
-    def test_the_same_command_past_the_hub_first(self) -> None:
-        """One that goes through the hub later is not taken for it."""
-        self.feed.take_recorded([command(0)])
-        self.take(asked(3_000))
-        self.feed.take_recorded([command(3_010, row=2)])
-        self.assertEqual(self.rows(), ["waits past_hub: drop 1001, past the hub: ok", "- command: drop 1001 by alice"])
-
-    def test_both_in_one_tick(self) -> None:
-        """Two rows of one time are two commands."""
-        self.take(asked(0))
-        self.feed.take_recorded([command(0), command(0, row=2)])
-        self.assertEqual(sorted(self.rows()), ["- command: drop 1001 by alice", "waits past_hub: drop 1001, past the hub: ok"])
-
-    def test_lines_as_they_were_typed(self) -> None:
-        self.take(asked(0, " drop  01001\\x0d"))
-        self.feed.take_recorded([command(0)])
-        self.assertEqual(self.rows(), ["- command: drop 1001 by alice"])
-
-    def test_before_the_audit_log_begins(self) -> None:
-        self.feed.take_recorded([command(-3_700_000)])
-        self.assertEqual(self.rows(), [f"waits past_hub: drop 1001, past the hub: ok: {LOG_BEGINS_LATER}"])
+        through, past = "- command: drop 1001 by alice", "waits past_hub: drop 1001, past the hub: ok"
+        rows = self.rows_after(asked(0), command(10), command(400, row=2), command(500, "drop 1002", 3), command(20_000, row=4))
+        self.assertEqual(rows, [through, past, "waits past_hub: drop 1002, past the hub: ok", past])
+        # one that goes through the hub later is not taken for the same command past the hub
+        self.assertEqual(self.rows_after(command(0), asked(3_000), command(3_010, row=2)), [past, through])
+        # two rows of one tick are two commands
+        self.assertEqual(sorted(self.rows_after(asked(0), command(0), command(0, row=2))), [through, past])
+        self.assertEqual(self.rows_after(command(-3_700_000)), [f"{past}: {LOG_BEGINS_LATER}"])
 
 
 class Restored(FeedCase):
@@ -200,7 +190,6 @@ class Restored(FeedCase):
         bad += [{"time": good["time"], "event": "answered"}, {"time": good["time"]}, {}]
         self.restart([*bad, {**asked(3), "line": None}, {**asked(4), "line": {}}, {**asked(6), "user": None}, good])
         self.assertEqual((self.rows(), self.log.count), ([f"- carrier_lost: carrier 1 was lost; acknowledged {time_text(BY.at_ms)} by alice"], 1))
-
 
     def test_long_texts(self) -> None:
         """Of each the beginning is kept."""
@@ -290,12 +279,22 @@ class Watched(unittest.TestCase):
         """The time of the test."""
         return Moment(NOON / 1000 + self.second - self.set_back, 100.0 + self.second)
 
+    def at(self, second: float) -> "Watched":
+        """The test, at another second."""
+        self.second = second
+        return self
+
     def connect(self) -> None:
         """The controller answers."""
         self.link.connection += 1
         self.link.state = LinkState(True, "", self.now())
         self.model.begin()
         self.watch.look(self.now())
+
+    def begin(self) -> None:
+        """The controller answers, and both carriers are up."""
+        self.connect()
+        self.show(0, 1)
 
     def go_away(self, reason: str = "cut") -> None:
         """The controller does not answer any more."""
@@ -323,30 +322,22 @@ class Watched(unittest.TestCase):
         return f"; over {time_text(NOON + int(1000 * second))}"
 
     def test_a_carrier(self) -> None:
-        self.connect()
-        self.show(0, 1)
-        self.second = 5
-        self.show(0)
-        self.second = 7
-        self.show()
-        self.second = 9
-        self.show(0)
-        self.second = 12
-        self.show(0, 1)
+        self.begin()
+        self.at(5).show(0)
+        self.at(7).show()
+        self.at(9).show(0)
+        self.at(12).show(0, 1)
         self.assertEqual(self.rows(), [f"5 waits carrier_lost: carrier 1 was lost{self.over(12)}", f"7 waits control_lost: no control channel: carrier 0 was lost, and the site was off the air{self.over(9)}",
                                        "9 - control_back: the control channel is back: carrier 0 came up", "12 - carrier_back: carrier 1 came up"])
 
     def test_a_start_of_the_controller(self) -> None:
         """Carriers have ten seconds to connect again. The controller is away for three."""
-        self.connect()
-        self.show(0, 1)
-        self.second = 10
-        self.go_away()
+        self.begin()
+        self.at(10).go_away()
         self.pass_seconds(3)
         self.connect()
         self.show()
-        self.second = 15
-        self.show(0)
+        self.at(15).show(0)
         self.pass_seconds(7.9)
         self.assertEqual(self.rows(), [f"10 waits controller_away: the controller was away: cut{self.over(13)}", "13 - controller_back: the controller answered again"])
         self.pass_seconds(0.2)
@@ -354,14 +345,10 @@ class Watched(unittest.TestCase):
 
     def test_a_connection_that_breaks_off(self) -> None:
         """It is opened again within a second: nothing has happened. A carrier that was down before is the same loss."""
-        self.connect()
-        self.show(0, 1)
-        self.second = 1
-        self.show(0)
-        self.second = 2
-        self.go_away()
-        self.second = 2.5
-        self.connect()
+        self.begin()
+        self.at(1).show(0)
+        self.at(2).go_away()
+        self.at(2.5).connect()
         self.show(0)
         self.pass_seconds(60)
         self.assertEqual(self.rows(), ["1 waits carrier_lost: carrier 1 was lost"])
@@ -377,8 +364,7 @@ class Watched(unittest.TestCase):
         """Carrier 1 was lost before the hub's start, and is down. It is one loss. Carrier 0 was lost too, and is up: when it came up is not known."""
         self.watch.feed.take_recorded([lost(-600_000, row=1), lost(-500_000, carrier=0, row=2)])
         self.connect()
-        self.second = 1
-        self.show(0)
+        self.at(1).show(0)
         self.pass_seconds(60)
         self.assertEqual(self.rows(), ["-600 waits carrier_lost: carrier 1 was lost", f"-500 waits control_lost: no control channel: carrier 0 was lost, and the site was off the air{self.over(1)}"])
         # the records of the end come later, and are exact
@@ -387,29 +373,22 @@ class Watched(unittest.TestCase):
 
     def test_the_clock_is_set_back(self) -> None:
         """By an hour, while a carrier is lost and the controller is away: both are over."""
-        self.connect()
-        self.show(0, 1)
-        self.second = 1
-        self.show(0)
+        self.begin()
+        self.at(1).show(0)
         self.set_back = 3600.0
-        self.second = 2
-        self.show(0, 1)
+        self.at(2).show(0, 1)
         self.set_back = 0.0
-        self.second = 3
-        self.go_away()
+        self.at(3).go_away()
         self.pass_seconds(2)
         self.set_back = 3600.0
-        self.second = 6
-        self.connect()
+        self.at(6).connect()
         self.assertEqual([(it.event.at_ms - NOON, it.ended_ms and it.ended_ms - NOON) for it in self.log.waiting()], [(1_000, 1_000), (3_000, 3_000)])
 
     def test_a_burst_that_waits(self) -> None:
         self.connect()
         self.show(0, 1, waiting=True)
-        self.second = 6
-        self.show(0, 1, waiting=True)
-        self.second = 8
-        self.show(0, 1)
+        self.at(6).show(0, 1, waiting=True)
+        self.at(8).show(0, 1)
         self.assertEqual(self.rows(), [f"0 waits no_polls: a burst waited: carrier 1, or the control carrier, did not poll{self.over(8)}"])
 
     def test_records_that_cannot_be_read(self) -> None:
@@ -433,11 +412,9 @@ class Watched(unittest.TestCase):
         self.connect()
         with mock.patch.object(self.model.watch, "is_overdue", lambda: True), mock.patch.object(self.model.watch, "missing_polls", lambda: 0.5):
             self.show(0, 1)
-            self.second = 7
-            self.go_away()
+            self.at(7).go_away()
             self.pass_seconds(0.5)
-        self.second = 8
-        self.connect()
+        self.at(8).connect()
         self.show(0, 1)
         self.assertEqual(self.rows(), [f"0 waits no_polls: a carrier that was up did not poll{self.over(8)}",
                                        f"0 waits records_failed: no records: the controller could not write them, or carriers did not poll{self.over(7)}"])
@@ -448,7 +425,3 @@ class Watched(unittest.TestCase):
         self.book.fault = ""
         self.pass_seconds(1)
         self.assertEqual(self.rows(), [f"1 - names_failed: the hub could not read the names: names.csv: gone{self.over(2)}"])
-
-
-if __name__ == "__main__":
-    unittest.main()

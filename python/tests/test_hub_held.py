@@ -5,7 +5,9 @@ not change.
 """
 import asyncio
 import contextlib
+import statistics
 import time
+from collections.abc import Coroutine
 from typing import Any
 from unittest import mock
 
@@ -16,11 +18,11 @@ from temzaar.hub.service import Hub
 from temzaar.hub.session import Session
 from temzaar.hub.turn import AHEAD_SECONDS, MOST_PACERS, SHARE, LongWork, Pacer, Paces
 from temzaar.ports import free_ports
+from tests.fake_console import STATUS
 from tests.hub_support import FULL, HubCase, Operator, wait_until
 
 # Seconds of the processor within which an operator is answered, half of the time, while the others do their worst; and how often it asks.
 ANSWERED_WITHIN, QUESTIONS = 0.05, 15
-STATUS = b"status carriers 2 radios 40 asks 0 lines 1 calls 2 fill aloha\n"
 
 
 class AttackCase(HubCase):
@@ -31,43 +33,40 @@ class AttackCase(HubCase):
         self.tcp, self.http = free_ports(1), free_ports(1)
         return await self.start(FULL, self.config({"tcp_port": self.tcp, **line_port}, {"port": self.http, **(http or {})}))
 
-    async def write(self, port: int, octets: bytes) -> asyncio.StreamWriter:
-        """A stranger's connection to a port, on which octets are written that the hub reads when it likes."""
-        _, writer = await asyncio.open_connection("127.0.0.1", port)
-        writer.write(octets)
-
-        async def leave() -> None:
-            if not writer.transport.is_closing():
-                writer.transport.abort()
-
-        self.addAsyncCleanup(leave)
-        return writer
-
-    async def times_of(self, operator: Operator) -> list[float]:
-        """How long an operator's questions take, one after the other, in ascending order."""
-        times = []
+    async def assert_in_time(self, operator: Operator, *attacks: Coroutine[Any, Any, None]) -> None:
+        """An operator is answered in time, and the console is not lost, while these attacks go on and what was written before is read."""
+        tasks, times = [asyncio.create_task(it) for it in attacks], []
         for _ in range(QUESTIONS):
             began = time.thread_time()
             self.assertEqual(await operator.ask(b"status"), STATUS)
             times.append(time.thread_time() - began)
             await asyncio.sleep(0.02)
-        return sorted(times)
-
-    def assert_in_time(self, hub: Hub, times: list[float]) -> None:
-        """The operator was answered in time, and the console was not lost."""
-        self.assertLess(times[len(times) // 2], ANSWERED_WITHIN)
-        self.assertEqual((hub.link.connection, hub.counts.losses.get()), (1, 0))
+        for it in tasks:
+            it.cancel()
+        self.assertLess(statistics.median(times), ANSWERED_WITHIN)
+        self.assertEqual((self.hub.link.connection, self.hub.counts.losses.get()), (1, 0))
 
 
 class Lines(AttackCase):
     """Lines that come faster than they are answered."""
 
-    async def test_empty_lines_on_many_connections(self) -> None:
+    async def assert_harmless(self, octets: bytes) -> None:
+        """Sixteen strangers write octets, and an operator is answered in time. The history is as long as it may be."""
         hub = await self.serve()
         operator = await self.connect()
+        hub.audit.recent.extend({"time": "now", "user": "x", "event": "answered", "line": f"move {number}", "reply": "ok"} for number in range(100))
         for _ in range(16):
-            await self.write(self.tcp, b"\n" * 200_000)
-        self.assert_in_time(hub, await self.times_of(operator))
+            await self.dial(self.tcp, octets)
+        await self.assert_in_time(operator)
+
+    async def test_empty_lines(self) -> None:
+        await self.assert_harmless(b"\n" * 200_000)
+
+    async def test_lists_of_the_hub(self) -> None:
+        await self.assert_harmless(b"history 100\nwho\nhelp\n" * 2000)
+
+    async def test_octets_without_a_line(self) -> None:
+        await self.assert_harmless(b"z" * 4_000_000)
 
     async def test_the_loop_turns_after_each_line(self) -> None:
         """Also after the first lines of a user, which do not come at a pace."""
@@ -90,22 +89,6 @@ class Lines(AttackCase):
             operator.writer.write(b"\n" * 20)
             await wait_until(lambda: len(written) == 20)
         self.assertEqual(len(set(written)), 20)
-
-    async def test_lists_of_the_hub_on_many_connections(self) -> None:
-        hub = await self.serve()
-        operator = await self.connect()
-        for number in range(100):
-            hub.audit.recent.append({"time": "now", "user": "x", "event": "answered", "line": f"move {number}", "reply": "ok"})
-        for _ in range(16):
-            await self.write(self.tcp, b"history 100\nwho\nhelp\n" * 2000)
-        self.assert_in_time(hub, await self.times_of(operator))
-
-    async def test_octets_without_a_line(self) -> None:
-        hub = await self.serve()
-        operator = await self.connect()
-        for _ in range(16):
-            await self.write(self.tcp, b"z" * 4_000_000)
-        self.assert_in_time(hub, await self.times_of(operator))
 
     async def test_questions_come_at_a_pace(self) -> None:
         """Of lines that a user sends at once some are answered at once, the others at their pace, over all connections."""
@@ -132,14 +115,14 @@ class Lines(AttackCase):
     async def test_connections_come_at_a_pace(self) -> None:
         hub = await self.serve()
         hub.line_port.listeners[1].pacer = Pacer(per_second=0.01, at_once=5)
-        others = [await asyncio.open_unix_connection(self.socket) for _ in range(2)]
-        others += [await asyncio.open_connection("127.0.0.1", self.tcp) for _ in range(10)]
+        for _ in range(2):
+            await self.connect()
+        for _ in range(10):
+            await self.dial(self.tcp)
         # the one that was waited for before the pace was changed, five more, and those of the other port
         await wait_until(lambda: hub.counts.line_accepts.get() == 1 + 5 + 2)
         await asyncio.sleep(0.1)
         self.assertEqual(hub.counts.line_accepts.get(), 1 + 5 + 2)
-        for _, writer in others:
-            writer.close()
 
     async def test_paces_of_users_who_rest_are_forgotten(self) -> None:
         paces = Paces(per_second=1e6)
@@ -152,20 +135,16 @@ class Requests(AttackCase):
     """Requests of HTTP that take the loop."""
 
     async def test_headers_of_blanks(self) -> None:
-        hub = await self.serve()
+        await self.serve()
         operator = await self.connect()
         octets = b"GET / HTTP/1.0\r\nX: a" + b" " * 7900 + b"b\r\n\r\n"
 
         async def attack() -> None:
             while True:
-                (await self.write(self.http, octets)).write_eof()
+                await self.dial(self.http, octets, ends=True)
                 await asyncio.sleep(0.01)
 
-        attacks = [asyncio.create_task(attack()) for _ in range(4)]
-        times = await self.times_of(operator)
-        for it in attacks:
-            it.cancel()
-        self.assert_in_time(hub, times)
+        await self.assert_in_time(operator, *(attack() for _ in range(4)))
 
     async def test_long_responses(self) -> None:
         """Requests for calls, each with a query of its own: a response takes the processor some ten milliseconds."""
@@ -176,17 +155,12 @@ class Requests(AttackCase):
 
         async def attack(last: int) -> None:
             while True:
-                reader, writer = await asyncio.open_connection("127.0.0.1", self.http)
-                writer.write(f"GET /v1/calls.json?last={last} HTTP/1.0\r\n\r\n".encode())
+                reader, writer = await self.dial(self.http, f"GET /v1/calls.json?last={last} HTTP/1.0\r\n\r\n".encode())
                 with contextlib.suppress(OSError):
                     await reader.read()
                 writer.close()
 
-        attacks = [asyncio.create_task(attack(1000 - number)) for number in range(24)]
-        times = await self.times_of(operator)
-        for it in attacks:
-            it.cancel()
-        self.assert_in_time(hub, times)
+        await self.assert_in_time(operator, *(attack(1000 - number) for number in range(24)))
 
     async def test_long_work_has_a_part_of_the_time(self) -> None:
         """Pieces that were asked for at once: after each of them the loop is free for others, three times as long as the piece took, less what it had ahead."""

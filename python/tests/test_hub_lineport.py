@@ -1,17 +1,17 @@
 """The hub's port for operators: lines and replies, roles, limits, and the stop."""
 import asyncio
 import os
+import pathlib
 import socket
 import unittest
 
-from temzaar.hub.lineport import PortFault
+from temzaar.hub.lineport import PortFault, bind_socket
 from temzaar.hub.lines import Line, LineCutter, LineKind, escape_octets
 from temzaar.hub.roles import ConfigFault, Role, Rules, find_rules
 from temzaar.hub.config import RoleKeys
 from temzaar.ports import free_ports
-from tests.hub_support import FULL, ME, NOBODY, NONE, READ, HubCase, wait_until
-
-STATUS = b"status carriers 2 radios 40 asks 0 lines 1 calls 2 fill aloha\n"
+from tests.fake_console import STATUS
+from tests.hub_support import FULL, NOBODY, READ, HubCase, wait_until
 
 
 class Lines(unittest.TestCase):
@@ -65,8 +65,7 @@ class Served(HubCase):
     """Lines and their replies."""
 
     async def test_the_commands_of_the_controller(self) -> None:
-        await self.start()
-        operator = await self.connect()
+        operator = await self.operate()
         for line, reply in ((b"status", STATUS), (b"slots\r", b"slot 0 0 control\nslot 0 1 call\nslot 1 0 call\nslot 1 1 free\nend\n"), (b"calls  0", b"call 0 1 group 91 from 1001\nend\n"),
                             (b"lines 1", b"line 1 group 94 from 1004\nend\n"), (b"radios 1039", b"radio 1039\nradio 1040\nend\n"), (b"drop 1001", b"ok\n"), (b"drop 1001", b"error not registered\n"),
                             (b"end 0 1", b"ok\n"), (b"move 7", b"ok\n"), (b"stay", b"ok\n"), (b"move", b"error unknown command\n"), (b"radios x y", b"error unknown command\n")):
@@ -75,8 +74,7 @@ class Served(HubCase):
         self.assertIn("calls  0", self.fake.asked)
 
     async def test_lines_that_are_not_passed_on(self) -> None:
-        await self.start()
-        operator = await self.connect()
+        operator = await self.operate()
         for line in (b"", b"hello", b"Status", b"status\rdrop 1001", b"\tdrop 1001", b"history 0", b"history 101", b"history x", b"who am i", b"help me"):
             self.assertEqual(await operator.ask(line), b"error unknown command\n", line)
         self.assertEqual(await operator.ask(b"y" * 81), b"error line too long\n")
@@ -84,8 +82,7 @@ class Served(HubCase):
         self.assertEqual(set(self.fake.asked) & {"", "hello", "Status", "who am i"}, set())
 
     async def test_many_lines_at_once_and_an_end_of_input(self) -> None:
-        await self.start()
-        operator = await self.connect()
+        operator = await self.operate()
         operator.writer.write(b"status\nstay\nwho knows\nmove 7\nst")
         operator.writer.write_eof()
         self.assertEqual(await operator.rest(), STATUS + b"ok\nerror unknown command\nok\n")
@@ -113,15 +110,8 @@ class Served(HubCase):
             await operator.ask(line)
             self.assertEqual(len(calls), count, line)
 
-    async def test_counters_have_the_name_of_a_command(self) -> None:
-        hub = await self.start()
-        operator = await self.connect()
-        self.assertEqual(await operator.ask(b" stay\r"), b"ok\n")
-        self.assertEqual(hub.counts.changes.values, {(("command", "stay"), ("outcome", "answered")): 1})
-
     async def test_own_commands(self) -> None:
-        await self.start()
-        operator = await self.connect()
+        operator = await self.operate()
         await operator.ask(b"drop 5")
         await operator.ask(b"move 7")
         other = await self.connect()
@@ -138,34 +128,27 @@ class Served(HubCase):
 
     async def test_the_longest_history(self) -> None:
         """The last hundred commands, though each of them has two records in the audit log."""
-        await self.start()
-        operator = await self.connect()
+        operator = await self.operate()
         for number in range(101):
             await operator.ask(b"move %d" % (number + 1))
         history = (await operator.ask(b"history 100")).decode().splitlines()
         self.assertEqual([line.split(": ")[1] for line in history[:-1]], [f"move {number + 1}" for number in range(1, 101)])
 
     async def test_the_controller_is_away(self) -> None:
-        hub = await self.start()
-        operator = await self.connect()
+        operator = await self.operate()
         self.fake.stop()
-        await wait_until(lambda: "cannot connect" in hub.link.state.reason)
+        await wait_until(lambda: "cannot connect" in self.hub.link.state.reason)
         self.assertEqual(await operator.ask(b"status"), f"error the controller is away: cannot connect to 127.0.0.1:{self.fake.port}: Connection refused\n".encode())
         self.assertRegex(await operator.ask(b"drop 1001"), b"^error not done: the controller is away: ")
         self.assertRegex((await operator.ask(b"who")).splitlines()[0], b" away since ")
         self.assertEqual([it["event"] for it in self.records()], ["asked", "not sent"])
 
-    async def test_a_question_without_an_answer(self) -> None:
-        await self.start(config=self.config(answer_seconds=2))
-        operator = await self.connect()
-        self.fake.octets["calls 9"] = b"e"
+    async def test_lines_without_an_answer(self) -> None:
+        operator = await self.operate(config=self.config(answer_seconds=2))
+        self.fake.octets.update({"calls 9": b"e", "drop 1001": b"o"})
         self.assertEqual(await operator.ask(b"calls 9"), b"error no answer: no answer in 2 s\n")
-
-    async def test_a_command_without_an_answer(self) -> None:
-        await self.start(config=self.config(answer_seconds=2))
-        operator = await self.connect()
-        self.fake.octets["drop 1001"] = b"o"
-        self.assertRegex(await operator.ask(b"drop 1001"), b"^error no answer: no answer in 2 s; the controller may have done it\n$")
+        await wait_until(lambda: self.hub.link.connection == 2)
+        self.assertEqual(await operator.ask(b"drop 1001"), b"error no answer: no answer in 2 s; the controller may have done it\n")
         self.assertEqual([it["event"] for it in self.records()], ["asked", "unanswered"])
 
 
@@ -173,8 +156,7 @@ class Allowed(HubCase):
     """Roles over the socket."""
 
     async def test_who_may_read_may_not_change(self) -> None:
-        await self.start(READ)
-        operator = await self.connect()
+        operator = await self.operate(READ)
         self.assertEqual(await operator.ask(b"status"), STATUS)
         for line in (b"drop 1001", b"  end 0 1", b"move 7\r", b"stay"):
             self.assertEqual(await operator.ask(line), b"error not allowed: this needs the role full\n")
@@ -183,21 +165,11 @@ class Allowed(HubCase):
                          [("refused", line, "read", os.getuid()) for line in ("drop 1001", "  end 0 1", "move 7\\x0d", "stay")])
         self.assertEqual(self.records()[0]["reply"], "error not allowed: this needs the role full")
 
-    async def test_who_has_no_role_is_refused(self) -> None:
-        hub = await self.start(NONE)
-        operator = await self.connect()
-        self.assertRegex(await operator.rest(), rb"^error the user \S+ has no role here\n$")
-        self.assertEqual(hub.counts.line_refusals.get(reason="no role"), 1)
-        self.assertEqual(hub.desk.sessions, {})
-
     async def test_over_tcp_everybody_may_read_and_no_more(self) -> None:
         port = free_ports(1)
         await self.start(FULL, self.config({"tcp_port": port}))
-        reader, writer = await asyncio.open_connection("127.0.0.1", port)
-        writer.write(b"status\nstay\n")
-        writer.write_eof()
+        reader, _ = await self.dial(port, b"status\nstay\n", ends=True)
         self.assertEqual(await reader.read(), STATUS + b"error not allowed: this needs the role full\n")
-        writer.close()
         self.assertEqual([(it["user"], it["uid"]) for it in self.records()], [("tcp", None)])
         self.assertEqual(self.changes_asked(), [])
 
@@ -248,27 +220,14 @@ class Limits(HubCase):
         fourth = await self.connect()
         self.assertEqual(await fourth.ask(b"status"), STATUS)
 
-    async def test_all_connections(self) -> None:
-        hub = await self.start(config=self.config({"connections": 2, "connections_per_user": 9}))
-        operators = [await self.connect() for _ in range(2)]
-        for operator in operators:
-            await operator.ask(b"status")
-        for _ in range(50):
-            extra = await self.connect()
-            self.assertRegex(await extra.rest(), b"^error the hub serves as many connections as it may: try again later\n$")
-            extra.close()
-        self.assertEqual(hub.counts.line_refusals.get(reason="full"), 50)
-        self.assertEqual(await operators[0].ask(b"status"), STATUS)
-
     async def test_idle_time(self) -> None:
-        hub = await self.start(config=self.config({"idle_seconds": 1.0}))
-        operator = await self.connect()
+        operator = await self.operate(config=self.config({"idle_seconds": 1.0}))
         # octets that never make a line keep nothing open
         for _ in range(4):
             operator.writer.write(b"x")
             await asyncio.sleep(0.1)
         self.assertEqual(await operator.rest(), b"")
-        self.assertEqual(hub.counts.line_cuts.get(reason="idle"), 1)
+        self.assertEqual(self.hub.counts.line_cuts.get(reason="idle"), 1)
 
     async def test_a_slow_reader(self) -> None:
         hub = await self.start(config=self.config({"output_octets": 1024, "write_seconds": 0.3}))
@@ -297,21 +256,19 @@ class Stopped(HubCase):
     """The begin and the end."""
 
     async def test_a_stop_ends_connections_and_removes_the_socket(self) -> None:
-        hub = await self.start()
-        operator = await self.connect()
+        operator = await self.operate()
         await operator.ask(b"status")
-        hub.stop()
+        self.hub.stop()
         self.assertEqual(await operator.rest(), b"")
         await asyncio.wait_for(self.task, 10)
         self.assertFalse(os.path.exists(self.socket))
 
     async def test_a_line_that_is_being_answered_has_its_answer_at_a_stop(self) -> None:
-        hub = await self.start()
-        operator = await self.connect()
+        operator = await self.operate()
         self.fake.delay = 0.3
         operator.writer.write(b"drop 1001\n")
         await wait_until(lambda: "drop 1001" in self.fake.asked)
-        hub.stop()
+        self.hub.stop()
         self.assertEqual(await operator.rest(), b"ok\n")
         self.assertEqual([it["event"] for it in self.records()], ["asked", "answered"])
 
@@ -321,18 +278,15 @@ class Stopped(HubCase):
         await self.start()
         self.assertEqual(await (await self.connect()).ask(b"status"), STATUS)
 
-    async def test_another_hub_is_not_replaced(self) -> None:
+    async def test_another_hub_or_a_file_is_not_replaced(self) -> None:
+        pathlib.Path(self.socket).touch()
+        self.assertRaisesRegex(PortFault, "is not a socket", bind_socket, self.socket)
+        self.assertTrue(os.path.exists(self.socket))
+        os.unlink(self.socket)
         await self.start()
         with self.assertRaisesRegex(PortFault, "another process serves"):
             await self.start()
         self.assertEqual(await (await self.connect()).ask(b"status"), STATUS)
-
-    async def test_a_file_is_not_replaced(self) -> None:
-        with open(self.socket, "w", encoding="ascii"):
-            pass
-        with self.assertRaisesRegex(PortFault, "is not a socket"):
-            await self.start()
-        self.assertTrue(os.path.exists(self.socket))
 
     async def test_a_tcp_port_that_is_taken(self) -> None:
         with socket.create_server(("127.0.0.1", 0)) as taken, self.assertRaisesRegex(PortFault, "cannot listen on port"):

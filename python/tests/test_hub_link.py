@@ -4,19 +4,19 @@ import socket
 import time
 import unittest
 from collections.abc import Awaitable
+from unittest import mock
 
 from temzaar.hub.config import ControllerKeys, PollKeys
 from temzaar.hub.counts import HubCounts
-from temzaar.hub.fairqueue import FairQueue
-from temzaar.hub.link import Backoff, ConsoleLink, NoAnswer
+from temzaar.hub.link import Backoff, ConsoleLink, FairQueue, NoAnswer
 from temzaar.hub.model import SiteModel
 from temzaar.hub.moment import Moment
 from temzaar.hub.poller import Poller
-from temzaar.hub.turn import Pacer
-from temzaar.picture import Age, RadioList, ask_picture, ask_radios
-from temzaar.sitefile import ConsolePlace, SiteFault
+from temzaar.picture import Age, RadioList, ask_radios, take_picture
+from temzaar.sitefile import SiteFault
 from tests.fake_console import REPLIES, FakeConsole
 from tests.hub_support import wait_until
+from tests.test_siteview import Written
 
 KEYS = ControllerKeys(answer_seconds=0.5, reconnect_seconds=0.2)
 PATIENT = ControllerKeys(answer_seconds=30, reconnect_seconds=0.2)
@@ -47,11 +47,12 @@ class Linked(unittest.IsolatedAsyncioTestCase):
 
     async def asyncSetUp(self) -> None:
         asyncio.get_running_loop().set_debug(False)
+        self.fake = FakeConsole()
+        self.addCleanup(self.fake.stop)
 
-    def start(self, fake: FakeConsole, keys: ControllerKeys = KEYS) -> ConsoleLink:
+    def start(self, keys: ControllerKeys = KEYS) -> ConsoleLink:
         """A link that runs until the test's end."""
-        self.addCleanup(fake.stop)
-        link = ConsoleLink(fake.place, keys, HubCounts())
+        link = ConsoleLink(lambda: self.fake.place(), keys, HubCounts())
         task = asyncio.create_task(link.run())
 
         async def stop() -> None:
@@ -61,9 +62,9 @@ class Linked(unittest.IsolatedAsyncioTestCase):
         self.addAsyncCleanup(stop)
         return link
 
-    async def start_up(self, fake: FakeConsole, keys: ControllerKeys = KEYS) -> ConsoleLink:
+    async def start_up(self, keys: ControllerKeys = KEYS) -> ConsoleLink:
         """A link that is up."""
-        link = self.start(fake, keys)
+        link = self.start(keys)
         await wait_until(lambda: link.state.is_up)
         return link
 
@@ -75,43 +76,39 @@ class Linked(unittest.IsolatedAsyncioTestCase):
         return caught.exception, time.monotonic() - began
 
     async def test_replies_are_the_controllers_to_the_octet(self) -> None:
-        fake = FakeConsole()
-        fake.octets["  stay "] = b"error \xff\x00strange\r\n"
-        link = await self.start_up(fake)
+        self.fake.octets["  stay "] = b"error \xff\x00strange\r\n"
+        link = await self.start_up()
         self.assertEqual(await link.ask("a", b"radios 1030"), b"".join(b"radio %d\n" % it for it in range(1030, 1041)) + b"end\n")
         self.assertEqual(await link.ask("a", b"  stay "), b"error \xff\x00strange\r\n")
         self.assertEqual(await link.ask("a", b"calls 99"), b"error unknown command\n")
         self.assertEqual(link.counts.questions.get(asker="operator"), 3)
 
     async def test_one_question_at_a_time(self) -> None:
-        fake = FakeConsole()
-        fake.delay = 0.004
-        link = await self.start_up(fake, PATIENT)
+        self.fake.delay = 0.004
+        link = await self.start_up(PATIENT)
         replies = await asyncio.gather(*(link.ask(f"user {n % 5}", b"status") for n in range(40)))
         self.assertEqual({reply.split()[0] for reply in replies}, {b"status"})
-        self.assertEqual(fake.overlaps, 0)
+        self.assertEqual(self.fake.overlaps, 0)
 
     async def test_one_who_asks_a_lot_delays_another_by_one_question(self) -> None:
-        fake = FakeConsole()
-        fake.delay = 0.01
-        link = await self.start_up(fake, PATIENT)
+        self.fake.delay = 0.01
+        link = await self.start_up(PATIENT)
         flood = [asyncio.create_task(link.ask("flood", b"slots")) for _ in range(20)]
         await asyncio.sleep(0)
         await link.ask("other", b"lines 1")
-        self.assertLessEqual(fake.asked.index("lines 1"), fake.asked.index("slots") + 2)
+        self.assertLessEqual(self.fake.asked.index("lines 1"), self.fake.asked.index("slots") + 2)
         await asyncio.gather(*flood)
 
     async def test_a_quiet_link_is_not_cut(self) -> None:
-        fake = FakeConsole(silence=1.5)
-        link = await self.start_up(fake, PATIENT)
+        self.fake.silence = 1.5
+        link = await self.start_up(PATIENT)
         await asyncio.sleep(2.5)
-        self.assertEqual((fake.connections, link.state.is_up), (1, True))
-        self.assertGreaterEqual(fake.asked.count("status"), 4)
+        self.assertEqual((self.fake.connections, link.state.is_up), (1, True))
+        self.assertGreaterEqual(self.fake.asked.count("status"), 4)
 
     async def test_it_connects_again(self) -> None:
-        fake = FakeConsole()
-        link = await self.start_up(fake)
-        fake.stop()
+        link = await self.start_up()
+        self.fake.stop()
         await wait_until(lambda: not link.state.is_up)
         self.assertIn("the controller", link.state.reason)
         await wait_until(lambda: "cannot connect" in link.state.reason)
@@ -119,7 +116,7 @@ class Linked(unittest.IsolatedAsyncioTestCase):
         self.assertRegex(fault.reason, "the controller is away: cannot connect to 127.0.0.1:.*refused")
         self.assertLess(seconds, 1.0)
         self.assertFalse(fault.was_sent)
-        again = FakeConsole(fake.port)
+        again = FakeConsole(self.fake.port)
         self.addCleanup(again.stop)
         await wait_until(lambda: link.state.is_up)
         self.assertEqual(await link.ask("a", b"stay"), b"ok\n")
@@ -127,9 +124,8 @@ class Linked(unittest.IsolatedAsyncioTestCase):
 
     async def test_a_controller_that_hangs(self) -> None:
         """The question that was sent may have been done, those that wait were not; nobody waits longer than the limit."""
-        fake = FakeConsole()
-        link = await self.start_up(fake)
-        fake.is_hung = True
+        link = await self.start_up()
+        self.fake.is_hung = True
         asked = [asyncio.create_task(self.failed(link.ask("a", b"drop 1001"))), asyncio.create_task(self.failed(link.ask("b", b"drop 1002")))]
         results = await asyncio.gather(*asked)
         self.assertEqual([fault.was_sent for fault, _ in results], [True, False])
@@ -137,13 +133,12 @@ class Linked(unittest.IsolatedAsyncioTestCase):
         self.assertIn("no answer in 0.5 s", results[0][0].reason)
         _, seconds = await self.failed(link.ask("a", b"status"))
         self.assertLess(seconds, 1.0)
-        fake.is_hung = False
+        self.fake.is_hung = False
         await wait_until(lambda: link.state.is_up)
 
     async def test_an_answer_that_comes_with_the_limit_is_an_answer(self) -> None:
         """The loop does not turn until the limit is over, as when the process is stopped. The answer has come meanwhile."""
-        fake = FakeConsole()
-        link = await self.start_up(fake, ControllerKeys(answer_seconds=0.2, reconnect_seconds=0.2))
+        link = await self.start_up(ControllerKeys(answer_seconds=0.2, reconnect_seconds=0.2))
         asking = asyncio.create_task(link.ask("a", b"drop 1001"))
         await asyncio.sleep(0)
         await asyncio.sleep(0)
@@ -153,51 +148,46 @@ class Linked(unittest.IsolatedAsyncioTestCase):
 
     async def test_a_line_that_nobody_asked_for(self) -> None:
         """It ends the connection when it comes, after a list too, and is not taken for the answer to the next question."""
-        fake = FakeConsole()
-        link = await self.start_up(fake, PATIENT)
+        link = await self.start_up(PATIENT)
         await link.ask("a", b"slots")
-        fake.streams[-1].sendall(b"ok\n")
+        self.fake.streams[-1].sendall(b"ok\n")
         await wait_until(lambda: "what nobody asked for" in link.state.reason)
         await wait_until(lambda: link.state.is_up)
         self.assertEqual(await link.ask("a", b"drop 5"), b"error not registered\n")
 
     async def test_a_slow_controller(self) -> None:
         """A question whose turn does not come in time fails, and is not sent."""
-        fake = FakeConsole()
-        link = await self.start_up(fake, ControllerKeys(answer_seconds=2))
-        fake.delay = 0.4
+        link = await self.start_up(ControllerKeys(answer_seconds=2))
+        self.fake.delay = 0.4
         asked = [asyncio.create_task(link.ask(f"{n}", f"calls {n}".encode())) for n in range(8)]
         done = await asyncio.gather(*asked, return_exceptions=True)
         failed = [n for n, it in enumerate(done) if isinstance(it, NoAnswer)]
         self.assertTrue(failed)
         self.assertTrue(link.state.is_up)
         await asyncio.sleep(0.6)
-        self.assertFalse({f"calls {n}" for n in failed} & set(fake.asked))
+        self.assertFalse({f"calls {n}" for n in failed} & set(self.fake.asked))
 
     async def test_another_operator_holds_the_console(self) -> None:
-        fake = FakeConsole()
-        with socket.create_connection(("127.0.0.1", fake.port)) as other:
+        with socket.create_connection(("127.0.0.1", self.fake.port)) as other:
             other.sendall(b"status\n")
             other.recv(100)
-            link = self.start(fake)
+            link = self.start()
             await wait_until(lambda: "does another operator hold it?" in link.state.reason)
             await self.failed(link.ask("a", b"status"))
         await wait_until(lambda: link.state.is_up)
-        self.assertEqual(fake.connections, 2)
+        self.assertEqual(self.fake.connections, 2)
 
     async def test_what_is_not_a_console(self) -> None:
-        fake = FakeConsole()
         for octets, reason in ((b"220 mail ready\n", "not a controller's console"), (b"status carriers 0 radios 0 asks 0 lines 0 calls 0 fill aloha\nok\n", "nobody asked for"), (b"x" * 5000, "does not end")):
             with self.subTest(reason):
-                fake.octets["status"] = octets
-                link = self.start(fake)
+                self.fake.octets["status"] = octets
+                link = self.start()
                 await wait_until(lambda: reason in link.state.reason)
                 self.assertFalse(link.state.is_up)
 
     async def test_a_cancelled_question_is_not_asked(self) -> None:
-        fake = FakeConsole()
-        link = await self.start_up(fake, PATIENT)
-        fake.delay = 0.1
+        link = await self.start_up(PATIENT)
+        self.fake.delay = 0.1
         first = asyncio.create_task(link.ask("a", b"slots"))
         await asyncio.sleep(0.02)
         second = asyncio.create_task(link.ask("a", b"drop 1001"))
@@ -205,71 +195,53 @@ class Linked(unittest.IsolatedAsyncioTestCase):
         second.cancel()
         await first
         self.assertEqual(await link.ask("a", b"stay"), b"ok\n")
-        self.assertNotIn("drop 1001", fake.asked)
+        self.assertNotIn("drop 1001", self.fake.asked)
 
     async def test_a_site_file_that_is_missing(self) -> None:
-        def read_place() -> ConsolePlace:
-            raise SiteFault("site file /x: No such file or directory")
-
-        link = ConsoleLink(read_place, KEYS, HubCounts())
-        task = asyncio.create_task(link.run())
-        await wait_until(lambda: "site file /x" in link.state.reason)
-        task.cancel()
+        with mock.patch.object(self.fake, "place", side_effect=SiteFault("site file /x: No such file or directory")):
+            link = self.start()
+            await wait_until(lambda: "site file /x" in link.state.reason)
 
     async def test_the_poller_keeps_the_model(self) -> None:
-        fake = FakeConsole()
-        link = await self.start_up(fake)
+        link = await self.start_up()
         model = SiteModel()
         poller = Poller(link, model, PollKeys(state_seconds=0.05, radios_seconds=60, questions_per_second=1000))
         task = asyncio.create_task(poller.run())
         await wait_until(lambda: model.radios is not None and model.picture is not None)
         assert model.picture and model.seen and model.radios
         self.assertEqual(model.radios, RadioList(tuple(range(1001, 1041)), True))
-        self.assertEqual([it for it in fake.asked if it.startswith("radios")], ["radios 0", "radios 1017", "radios 1033"])
+        self.assertEqual([it for it in self.fake.asked if it.startswith("radios")], ["radios 0", "radios 1017", "radios 1033"])
         self.assertEqual(model.picture.calls, {(0, 1): "group 91 from 1001", (1, 0): "radio 1002 from 1003"})
         self.assertEqual(model.picture.lines, ["group 94 from 1004"])
         self.assertLess(abs(model.seen.wall - time.time()), 5)
-        fake.radios.discard(1001)
+        self.fake.radios.discard(1001)
         poller.hurry()
         await wait_until(lambda: model.radios is not None and 1001 not in model.radios.radios)
         for line, reply in (("slots", ["not slots", "end"]), ("calls 0", ["call", "end"])):
-            before, fake.replies[line] = link.counts.poll_faults.get(), reply
+            before, self.fake.replies[line] = link.counts.poll_faults.get(), reply
             await wait_until(lambda before=before: link.counts.poll_faults.get() > before)  # type: ignore[misc]
-            fake.replies[line] = REPLIES[line]
-        fake.stop()
+            self.fake.replies[line] = REPLIES[line]
+        self.fake.stop()
         await asyncio.sleep(0.1)
         self.assertFalse(task.done())
         self.assertIsNotNone(model.picture)
         task.cancel()
-
-    async def test_the_pacer(self) -> None:
-        pacer, began = Pacer(100), time.monotonic()
-        for _ in range(11):
-            await pacer.wait()
-        self.assertGreaterEqual(time.monotonic() - began, 0.095)
 
 
 class Remembered(unittest.TestCase):
     """The model."""
 
     def test_ages_and_carriers(self) -> None:
-        replies = {"status": ["status carriers 1 radios 4 asks 0 lines 0 calls 1 fill aloha"], "slots": ["slot 0 0 control", "slot 0 1 call", "slot 1 0 down", "slot 1 1 down"],
-                   "calls 0": ["call 0 1 group 91 from 1001"]}
+        console = Written(status=["status carriers 1 radios 4 asks 0 lines 0 calls 1 fill aloha"], slots=["slot 0 0 control", "slot 0 1 call", "slot 1 0 down", "slot 1 1 down"])
         model = SiteModel()
 
         def look(at: float) -> None:
-            questions = ask_picture()
-            line = next(questions)
-            try:
-                while True:
-                    line = questions.send(replies[line])
-            except StopIteration as done:
-                model.take_picture(done.value, Moment(1000 + at, at))
+            model.take_picture(take_picture(console), Moment(1000 + at, at))
 
         look(10)
         self.assertEqual({number: (it.is_up, it.since.steady) for number, it in model.carriers.items()}, {0: (True, 10), 1: (False, 10)})
-        replies["calls 0"] = ["call 0 1 group 92 from 1001"]
-        replies["slots"][1:] = ["slot 0 1 call", "slot 1 0 free", "slot 1 1 free"]
+        console.replies["calls 0"] = ["call 0 1 group 92 from 1001"]
+        console.replies["slots"][1:] = ["slot 0 1 call", "slot 1 0 free", "slot 1 1 free"]
         look(20)
         look(25)
         self.assertEqual({number: (it.is_up, it.since.steady) for number, it in model.carriers.items()}, {0: (True, 10), 1: (True, 20)})

@@ -1,24 +1,20 @@
 """The hub's names: read again when their file changes, shown next to numbers, and found by a text. Of a file that cannot be used nothing is taken."""
-import dataclasses
 import json
 import os
-import pathlib
 import time
 from typing import Any
 from unittest import mock
 
-from temzaar.cli.hub import config_of, main, read_words
 from temzaar.hub import namebook
 from temzaar.hub.config import HealthKeys, NamesKeys
 from temzaar.hub.namebook import NameBook, NameIndex
 from temzaar.hub.service import Hub
 from temzaar.names import Kind, Names, parse_names
 from temzaar.picture import RadioList
-from temzaar.ports import free_ports
+from tests.fake_console import DOWN
 from tests.hub_support import wait_until
 from tests.made_records import make_records
-from tests.support import call_tool
-from tests.test_hub_board import BoardCase
+from tests.test_hub_web import WebCase
 
 # The fake console has carriers 0 and 1, and the radios 1001 to 1040. 1001 has a call to group 91, 1003 one to 1002, and 1004 waits for group 94.
 NAMES = "kind,number,name\nradio,1001,Bus 12\nradio,1003,Süd <b>\nradio,1500,Bus 99\nradio,91,nobody\ntalkgroup,91,Drivers\ntalkgroup,1002,nobody\ncarrier,1,Mast North\n"
@@ -29,23 +25,13 @@ def names_of(text: str) -> Names:
     return parse_names(text.encode(), "names.csv").names
 
 
-class NamesCase(BoardCase):
+class NamesCase(WebCase):
     """A hub with an HTTP port and a file of names."""
 
-    async def serve_names(self, text: str = NAMES, health: HealthKeys = HealthKeys(), records: str = "") -> Hub:
-        """Starts it, and waits until the names were read."""
-        self.port, self.file = free_ports(1), pathlib.Path(self.folder, "names.csv")
-        self.file.write_text(text, encoding="utf-8")
-        config = self.config(http={"port": self.port}, health=health, records=records)
-        hub = await self.start(config=dataclasses.replace(config, names=NamesKeys(str(self.file), 0.05)))
-        await wait_until(lambda: hub.model.picture is not None and hub.model.radios is not None and hub.book.version)
-        return hub
-
-    def write(self, text: str) -> None:
-        """Writes the file again, as an editor does."""
-        new = self.file.with_suffix(".new")
-        new.write_text(text, encoding="utf-8")
-        os.replace(new, self.file)
+    async def serve_names(self, text: str = NAMES, health: HealthKeys = HealthKeys(), records: object = "") -> Hub:
+        """Starts it, once the file was written."""
+        self.write_names(text)
+        return await self.serve(health, records)
 
 
 class Views(NamesCase):
@@ -73,8 +59,7 @@ class Views(NamesCase):
 
     async def test_calls(self) -> None:
         """Seen calls and recorded ones; the name of what the query asks for."""
-        hub = await self.serve_names(records=str(make_records(pathlib.Path(self.folder, "site.db"))))
-        await wait_until(lambda: hub.records and hub.records.last)
+        await self.serve_names(records=make_records(self.db))
         view = await self.view("/v1/calls.json?group=91&last=1")
         self.assertEqual((view["name"], view["calls"][0]["target_name"], view["calls"][0]["source_name"], view["calls"][0]["carrier_name"]), ("Drivers", "Drivers", "Bus 12", None))
         self.assertEqual([(await self.view(f"/v1/calls.json{query}"))["name"] for query in ("", "?radio=1500", "?radio=7", "?group=1500")], [None, "Bus 99", None, None])
@@ -88,9 +73,6 @@ class Views(NamesCase):
                          {"complete": True, "registered": [1001, 1002, 1003], "count": 40, "found": 9, "names": {"1001": "Bus 12", "1003": "Süd <b>"}})
         whole = await self.view("/v1/radios.json")
         self.assertEqual((len(whole["registered"]), whole["found"], whole["names"]), (40, 40, {"1001": "Bus 12", "1003": "Süd <b>"}))
-        for query, said in (("begins=0", "begins: out of range: 1 to 16777215"), ("begins=x", "begins: not a whole number"), ("most=1001", "most: out of range: 1 to 1000"), ("last=1", "last: unknown key: there is begins, most")):
-            answer = await self.get(f"/v1/radios.json?{query}")
-            self.assertEqual((answer.status, answer.body.decode()[:len(said)]), (400, said))
 
     async def test_search(self) -> None:
         """By a part of the name, in upper or lower case. It asks for what it shows: the greatest number of names is the query's."""
@@ -98,17 +80,11 @@ class Views(NamesCase):
         bus = [{"kind": "radio", "number": 1001, "name": "Bus 12", "registered": True}, {"kind": "radio", "number": 1500, "name": "Bus 99", "registered": False}]
         for query, names, is_complete in (("bus", bus, True), ("BUS%201", bus[:1], True), ("bus&most=1", bus[:1], False), ("12", bus[:1], True), ("s%C3%BCd", [{**bus[0], "number": 1003, "name": "Süd <b>"}], True),
                                           ("S%C3%9CD", [{**bus[0], "number": 1003, "name": "Süd <b>"}], True), ("drivers", [{"kind": "talkgroup", "number": 91, "name": "Drivers", "registered": None}], True),
-                                          ("north", [{"kind": "carrier", "number": 1, "name": "Mast North", "registered": None}], True), ("x", [], True), ("2%0a", None, True)):
-            answer = await self.get(f"/v1/names.json?find={query}")
-            if names is None:
-                self.assertEqual((answer.status, answer.body), (400, b"find: not a text of 1 to 40 characters\n"))
-            else:
-                self.assertEqual((json.loads(answer.body), answer.status), ({"complete": is_complete, "names": names}, 200), query)
-        for query in ("find=", "find=%FF", f"find={41 * 'x'}", "look=a"):
-            self.assertEqual((await self.get(f"/v1/names.json?{query}")).status, 400, query)
+                                          ("north", [{"kind": "carrier", "number": 1, "name": "Mast North", "registered": None}], True), ("x", [], True)):
+            self.assertEqual(await self.view(f"/v1/names.json?find={query}"), {"complete": is_complete, "names": names}, query)
 
     async def test_health_has_names_and_metrics_have_none(self) -> None:
-        self.fake.replies["slots"] = ["slot 0 0 control", "slot 0 1 free", "slot 1 0 down", "slot 1 1 down", "end"]
+        self.fake.replies["slots"] = DOWN
         await self.serve_names(health=HealthKeys(carrier_seconds=0.0))
         answer = await self.get("/healthz")
         self.assertRegex(answer.body.decode(), r"^carrier 1 \[Mast North\] is down since \S+Z\n$")
@@ -134,13 +110,13 @@ class Reload(NamesCase):
     async def test_a_change(self) -> None:
         hub = await self.serve_names()
         tag = (await self.get("/v1/calls.json")).headers["etag"]
-        self.write("radio,1001,Bus 13\n")
+        self.write_names("radio,1001,Bus 13\n")
         await wait_until(lambda: hub.book.version == 2)
         self.assertEqual((await self.view("/v1/site.json"))["state"]["carriers"][0]["slots"][1]["call"]["source_name"], "Bus 13")
         answer = await self.get("/v1/calls.json")
         self.assertEqual((json.loads(answer.body)["calls"][-1]["source_name"], answer.headers["etag"] == tag), ("Bus 13", False))
         self.assertEqual((await self.view("/v1/names.json?find=bus"))["names"][0]["name"], "Bus 13")
-        self.write("")
+        self.write_names("")
         await wait_until(lambda: hub.book.version == 3)
         self.assertEqual((len(hub.book.names), (await self.view("/v1/radios.json"))["names"]), (0, {}))
 
@@ -148,20 +124,19 @@ class Reload(NamesCase):
         """It is noted once, the JSON says so, and the names that were read before stay."""
         with mock.patch.object(namebook, "warn") as warned, mock.patch.object(namebook, "note") as noted:
             hub = await self.serve_names()
-            self.assertEqual(noted.call_args.args, (f"names: {self.file}: 7 names",))
-            for change, fault in ((lambda: self.write("a;b\n"), "line 1: not kind,number,name, three fields with commas between them; no line of the file is right"),
-                                  (lambda: os.unlink(self.file), "No such file or directory"), (lambda: os.mkdir(self.file), "Is a directory"),
-                                  (lambda: (os.rmdir(self.file), os.mkfifo(self.file)), "a pipe, and not a file")):
+            self.assertEqual(noted.call_args.args, (f"names: {self.names}: 7 names",))
+            for change, fault in ((lambda: self.write_names("a;b\n"), "line 1: not kind,number,name, three fields with commas between them; no line of the file is right"),
+                                  (lambda: os.unlink(self.names), "No such file or directory"), (lambda: os.mkdir(self.names), "Is a directory"),
+                                  (lambda: (os.rmdir(self.names), os.mkfifo(self.names)), "a pipe, and not a file")):
                 change()
                 await wait_until(lambda fault=fault: fault in hub.book.fault)
-                looks = 3
-                for _ in range(looks):
+                for _ in range(3):
                     await hub.book.look()
-                self.assertEqual(warned.call_args.args, (f"names: {self.file}: {fault}; the names that were read before stay",))
+                self.assertEqual(warned.call_args.args, (f"names: {self.names}: {fault}; the names that were read before stay",))
                 view = await self.view("/v1/site.json")
-                self.assertEqual((view["names"]["fault"], view["names"]["count"], view["state"]["carriers"][1]["name"]), (f"{self.file}: {fault}", 7, "Mast North"))
+                self.assertEqual((view["names"]["fault"], view["names"]["count"], view["state"]["carriers"][1]["name"]), (f"{self.names}: {fault}", 7, "Mast North"))
             self.assertEqual((warned.call_count, hub.book.version), (4, 1))
-            self.write(NAMES)
+            self.write_names(NAMES)
             await wait_until(lambda: hub.book.version == 2)
             self.assertEqual((await self.view("/v1/site.json"))["names"]["fault"], None)
 
@@ -170,33 +145,26 @@ class Reload(NamesCase):
         with mock.patch.object(namebook, "warn") as warned:
             hub = await self.serve_names("radio,1001,a\nradio,x,\x1b[2J\n" + "secret\n" * 7)
         said = [it.args[0] for it in warned.call_args_list]
-        self.assertEqual((len(said), said[0], hub.book.bad_count), (6, f"names: {self.file}: line 2: the number of a radio is from 1 to 16777215", 8))
-        self.assertEqual(said[-1], f"names: {self.file}: 3 more lines are not used; `dmr_check --names {self.file}` lists them")
+        self.assertEqual((len(said), said[0], hub.book.bad_count), (6, f"names: {self.names}: line 2: the number of a radio is from 1 to 16777215", 8))
+        self.assertEqual(said[-1], f"names: {self.names}: 3 more lines are not used; `dmr_check --names {self.names}` lists them")
         self.assertNotIn("secret", " ".join(said))
         self.assertEqual((await self.view("/v1/site.json"))["names"], {"count": 1, "bad_lines": 8, "fault": None})
 
     async def test_a_file_that_cannot_be_read_at_first(self) -> None:
         """The hub serves, and takes the file when it is there. A file that is bad and stays the same is read once."""
-        book = NameBook(NamesKeys(os.path.join(self.folder, "names.csv")))
+        book = NameBook(NamesKeys(str(self.names)))
         with mock.patch.object(namebook, "warn"), mock.patch.object(namebook, "note"), mock.patch.object(namebook, "scan_names", wraps=namebook.scan_names) as scanned:
             await book.look()
             self.assertIn("No such file", book.fault)
-            pathlib.Path(book.keys.file).write_text("nothing\n", encoding="utf-8")
+            self.write_names("nothing\n")
             for _ in range(3):
                 await book.look()
             self.assertEqual((scanned.call_count, book.version), (2, 0))
-            pathlib.Path(book.keys.file).write_text(NAMES, encoding="utf-8")
+            self.write_names(NAMES)
             for _ in range(3):
                 await book.look()
         self.assertEqual((scanned.call_count, book.version, book.fault, book.names), (3, 1, "", names_of(NAMES)))
         book.worker.close()
-
-    async def test_the_words_name_another_file(self) -> None:
-        path = pathlib.Path(self.folder, "hub.toml")
-        path.write_text('[names]\nfile = "/a/names.csv"\n', encoding="utf-8")
-        for words, file in (([], "/a/names.csv"), (["--names", "b.csv"], os.path.abspath("b.csv"))):
-            self.assertEqual(config_of(read_words(["--config", str(path), *words])).names.file, file)
-        self.assertEqual(call_tool(main, "--check", "--config", str(path), "--names", "c.csv").returncode, 0)
 
 
 class Many(NamesCase):

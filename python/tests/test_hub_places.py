@@ -2,7 +2,6 @@
 import asyncio
 import contextlib
 import io
-import json
 import os
 import socket
 import threading
@@ -11,17 +10,17 @@ import unittest
 from unittest import mock
 
 from temzaar.hub import audit, notes, places, roles
-from temzaar.hub.notes import MOST_NOTES, UserNotes, note, warn
+from temzaar.hub.notes import MOST_NOTES, Quota, UserNotes, note, warn
 from temzaar.hub.places import MOST_REFUSED, SILENT_SECONDS, NoPlace, Place, Places
-from temzaar.hub.quota import Quota
 from temzaar.hub.roles import Role
 from temzaar.hub.session import MOST_REFUSALS
 from temzaar.hub.turn import Paces
 from temzaar.hub.worker import Late, Worker
 from temzaar.hubconsole import HubConsole
 from temzaar.ports import free_ports
-from tests.hub_support import NOBODY, NONE, READ, HubCase, Rules, wait_until
-from tests.test_hub_held import STATUS, AttackCase
+from tests.fake_console import STATUS
+from tests.hub_support import NONE, READ, HubCase, wait_until
+from tests.test_hub_held import AttackCase
 from tests.test_hub_web import WebCase
 
 
@@ -30,9 +29,7 @@ class Taken(unittest.TestCase):
 
     def setUp(self) -> None:
         self.now, self.ended = 100.0, list[str]()
-        clock = mock.patch.object(time, "monotonic", lambda: self.now)
-        clock.start()
-        self.addCleanup(clock.stop)
+        self.enterContext(mock.patch.object(time, "monotonic", lambda: self.now))
 
     def take(self, among: Places, user: str, role: Role = Role.READ, has_spoken: bool = True) -> Place:
         """A place of a user."""
@@ -149,20 +146,18 @@ class Hanging(HubCase):
     def hang(self, place: object, name: str) -> None:
         """A function does not return before the test's end."""
         ends = threading.Event()
-        patch = mock.patch.object(place, name, lambda *_: ends.wait(20))
-        patch.start()
-        self.addCleanup(patch.stop)
+        self.enterContext(mock.patch.object(place, name, lambda *_: ends.wait(20)))
         self.addCleanup(ends.set)
 
     async def test_the_names_of_users(self) -> None:
         """Operators are known by their numbers then, and the audit log is written meanwhile."""
-        hub = await self.start()
-        first = await self.connect()
+        first = await self.operate()
         await first.ask(b"status")
-        hub.line_port.people.worker.seconds = 0.5
+        worker = self.hub.line_port.people.worker
+        worker.seconds = 0.5
         self.hang(roles, "user_name")
         others = [await self.connect() for _ in range(5)]
-        await wait_until(lambda: hub.line_port.people.worker.began)
+        await wait_until(lambda: worker.began)
         self.assertEqual(await first.ask(b"drop 1001"), b"ok\n")
         for other in others:
             self.assertRegex(await other.ask(b"status"), b"^status carriers 2 radios 39 ")
@@ -170,15 +165,14 @@ class Hanging(HubCase):
 
     async def test_the_audit_log(self) -> None:
         """Commands are refused, soon; questions are answered."""
-        hub = await self.start()
-        operator = await self.connect()
-        hub.audit.worker.seconds = 0.2
+        operator = await self.operate()
+        self.hub.audit.worker.seconds = 0.2
         self.hang(audit.os, "fsync")
         for _ in range(3):
             self.assertEqual(await operator.ask(b"drop 1001"), b"error not done: the audit log cannot be written\n")
         self.assertEqual(await operator.ask(b"status"), STATUS)
         self.assertEqual(self.changes_asked(), [])
-        self.assertEqual(hub.audit.fault, f"cannot write {self.audit}: it has not ended after 0.2 s")
+        self.assertEqual(self.hub.audit.fault, f"cannot write {self.audit}: it has not ended after 0.2 s")
 
 
 class Refused(HubCase):
@@ -213,11 +207,8 @@ class Refused(HubCase):
         port = free_ports(1)
         hub = await self.start(config=self.config({"tcp_port": port}))
         for octets, replies in ((b"POST / HTTP/1.1\r\nHost: x\r\n\r\ndrop 1001\n", b""), (b"OPTIONS " + b"x" * 99 + b"\ndrop 1001\n", b""), (b"status\nPOST x\n", STATUS + b"error unknown command\n")):
-            reader, writer = await asyncio.open_connection("127.0.0.1", port)
-            writer.write(octets)
-            writer.write_eof()
+            reader, _ = await self.dial(port, octets, ends=True)
             self.assertEqual(await reader.read(), replies)
-            writer.close()
         self.assertEqual((hub.counts.line_cuts.get(reason="http"), self.records()), (2, []))
 
 
@@ -229,17 +220,14 @@ class Crowds(AttackCase):
         hub = await self.serve(connections=6, connections_per_user=4)
         replies = []
         for count in range(5):
-            reader, writer = await asyncio.open_connection("127.0.0.1", self.tcp)
             # those that are refused hear of it first
-            if count < 3:
-                writer.write(b"status\n")
+            reader, _ = await self.dial(self.tcp, b"status\n" if count < 3 else b"")
             replies.append(await reader.readline())
-            self.addCleanup(writer.close)
         self.assertEqual(replies[:3], [STATUS] * 3)
         self.assertEqual(set(replies[3:]), {b"error the hub serves as many connections as it may: try again later\n"})
         for _ in range(3):
             self.assertEqual(await (await self.connect()).ask(b"status"), STATUS)
-        self.assertEqual(len(hub.line_port.places.taken), 6)
+        self.assertEqual((len(hub.line_port.places.taken), hub.counts.line_refusals.get(reason="full")), (6, 2))
 
     async def test_silent_operators_give_way(self) -> None:
         hub = await self.serve(connections_per_user=2)
@@ -254,11 +242,11 @@ class Crowds(AttackCase):
 
     async def test_those_without_a_role_take_no_place(self) -> None:
         """The hub does not ask for the names of all of them, and refuses each."""
-        hub = await self.start(Rules(NOBODY, NOBODY, NOBODY, NOBODY, Role.NONE), self.config({"connections": 2}))
+        hub = await self.start(NONE, self.config({"connections": 2}))
         others = [await self.connect() for _ in range(80)]
         for it in others:
-            self.assertRegex(await it.rest(), b"^error the user .* has no role here\n$")
-        self.assertEqual((hub.counts.line_refusals.values, hub.line_port.places.taken), ({(("reason", "no role"),): 80}, {}))
+            self.assertRegex(await it.rest(), rb"^error the user \S+( \d+)? has no role here\n$")
+        self.assertEqual((hub.counts.line_refusals.values, hub.line_port.places.taken, hub.desk.sessions), ({(("reason", "no role"),): 80}, {}, {}))
 
     async def test_a_queue_that_is_full(self) -> None:
         """The console tries again while too many others connect to the hub."""
@@ -284,25 +272,21 @@ class Http(WebCase):
 
     async def test_silent_connections_give_way(self) -> None:
         hub = await self.serve(connections=4, request_seconds=30)
-        silent = [await asyncio.open_connection("127.0.0.1", self.port) for _ in range(4)]
-        for _, writer in silent:
-            writer.write(b"GET / HT")
+        for _ in range(4):
+            await self.dial(self.port, b"GET / HT")
         await wait_until(lambda: len(hub.web_port.places.taken) == 4)
         await asyncio.sleep(SILENT_SECONDS)
         for _ in range(8):
             self.assertEqual((await self.get("/healthz")).status, 200)
         self.assertEqual(hub.counts.http_refusals.get(), 1)
-        for _, writer in silent:
-            writer.close()
 
     async def test_a_refusal_arrives(self) -> None:
         """Also if the request was sent before it, and not read."""
         await self.serve(connections=1, request_seconds=30)
-        _, writer = await asyncio.open_connection("127.0.0.1", self.port)
+        await self.dial(self.port)
         with mock.patch.object(places, "SILENT_SECONDS", 60):
             answers = [await self.get("/" + "x" * 6000) for _ in range(20)]
         self.assertEqual({(it.status, it.headers.get("retry-after"), it.body) for it in answers}, {(503, "1", b"too many connections\n")})
-        writer.close()
 
     async def test_responses_are_kept_until_something_changes(self) -> None:
         hub = await self.serve()
@@ -313,16 +297,12 @@ class Http(WebCase):
         for path in ("/v1/calls.json?last=7", "/v1/radios.json"):
             first, second = await self.get(path), await self.get(path)
             self.assertEqual((first.status, first.body), (200, second.body))
-        self.assertEqual(made, [("last=7",), ("",)])
+        self.assertEqual(made, [({"last": 7},), ({},)])
         self.fake.radios.discard(1001)
         self.fake.replies["calls 0"] = ["call 0 1 group 92 from 1001", "end"]
         await wait_until(lambda: hub.model.calls.count == 3 and hub.model.radios and 1001 not in hub.model.radios.radios)
-        self.assertEqual(json.loads((await self.get("/v1/calls.json?last=7")).body)["seen"], 3)
-        self.assertNotIn(1001, json.loads((await self.get("/v1/radios.json")).body)["registered"])
+        self.assertEqual((await self.view("/v1/calls.json?last=7"))["seen"], 3)
+        self.assertNotIn(1001, (await self.view("/v1/radios.json"))["registered"])
         for number in range(100):
             await self.get(f"/v1/calls.json?last={number + 1}")
-        self.assertLessEqual(len(hub.board.kept_calls.responses), 16)
-
-
-if __name__ == "__main__":
-    unittest.main()
+        self.assertLessEqual(len(hub.board.kept["/v1/calls.json"].responses), 16)

@@ -1,6 +1,5 @@
 """The hub's counters and last calls of the controller's records. The rows are those of `made_records`, and the figures were counted in them by hand."""
 import asyncio
-import json
 import os
 import pathlib
 import re
@@ -10,22 +9,19 @@ import tempfile
 import threading
 import time
 import unittest
-from contextlib import closing
 from unittest import mock
 
 from temzaar.console import Parties
-from temzaar.hub import notes
 from temzaar.hub.config import RecordsKeys
-from temzaar.hub.controllerversion import read_controller_version
 from temzaar.hub.moment import Moment
 from temzaar.hub.newrecords import read_new, signature
 from temzaar.hub.recordcounts import RecordCounts, RecordedLog
-from temzaar.hub.recordreader import RecordReader
-from temzaar.hub.seencalls import RECORD, CallFilter, CallLog, SeenCall, pack_call, unpack_call
-from temzaar.records import CAUSES, RecordedTerm
-from tests.hub_support import wait_until
+from temzaar.hub.recordreader import RecordReader, read_controller_version
+from temzaar.hub.seencalls import CallFilter, CallLog, SeenCall
+from temzaar.records import RecordedTerm
+from tests.hub_support import change_records, quiet_notes, wait_until
 from tests.made_records import NOON, TABLES, add_term, locked, make_records
-from tests.test_hub_web import WebCase
+from tests.test_hub_web import WebCase, samples_of
 
 ALL = CallFilter()
 # Of all three terms. Calls by kind and cause: each cause but one has one call.
@@ -43,18 +39,11 @@ TOTALS = {
 }
 
 
-def samples_of(text: str) -> dict[str, float]:
-    """The samples of a text in the format of Prometheus."""
-    return {name: float(value) for name, value in re.findall(r"^(\w+(?:\{[^}]*\})?) (\S+)$", text, re.M)}
-
-
 class Folder(unittest.TestCase):
     """A test with a folder."""
 
     def setUp(self) -> None:
-        folder = tempfile.TemporaryDirectory()
-        self.addCleanup(folder.cleanup)
-        self.folder = pathlib.Path(folder.name)
+        self.folder = pathlib.Path(self.enterContext(tempfile.TemporaryDirectory()))
 
 
 class New(Folder):
@@ -96,9 +85,8 @@ class New(Folder):
         counts, path = RecordCounts(), make_records(self.folder / "site.db", terms=2)
         last = self.counted(path, counts, None)
         add_term(path, 3)
-        with closing(sqlite3.connect(path)) as conn, conn:
-            for table, column in (("terms", "number"), ("calls", "term"), ("events", "term")):
-                conn.execute(f"DELETE FROM {table} WHERE {column} < 3")
+        for table, column in (("terms", "number"), ("calls", "term"), ("events", "term")):
+            change_records(path, f"DELETE FROM {table} WHERE {column} < 3")
         self.counted(path, counts, last)
         self.assert_totals(counts)
 
@@ -107,8 +95,7 @@ class New(Folder):
         for terms in (1, 2, 3):
             with self.subTest(terms):
                 path = make_records(self.folder / f"{terms}.db", terms)
-                with closing(sqlite3.connect(path)) as conn, conn:
-                    conn.execute("UPDATE terms SET ended_ms = ended_ms + 1")
+                change_records(path, "UPDATE terms SET ended_ms = ended_ms + 1")
                 before = read_new(str(make_records(self.folder / f"old{terms}.db", 2)), None).last
                 self.assertEqual(read_new(str(path), before).terms, terms)
 
@@ -126,9 +113,12 @@ class New(Folder):
         self.assertEqual(signature(str(self.folder / "none")), (None, None))
 
 
-def seen(log: CallLog, number: int, slot: tuple[int, int], parties: str, began: float, ended: float, is_end_seen: bool = True) -> None:
-    """Adds a call that has ended to a log; seconds after noon."""
-    log.ended.append(SeenCall(number, slot, Parties.read(parties), Moment(NOON / 1000 + began, began), False, Moment(NOON / 1000 + ended, ended), is_end_seen))
+def log_of(*calls: tuple[int, tuple[int, int], str, float, float]) -> CallLog:
+    """A log of calls that have ended: the number, the slot and the parties of each, and the seconds after noon at which it began and ended."""
+    log = CallLog(10_000)
+    for number, slot, parties, began, ended in calls:
+        log.ended.append(SeenCall(number, slot, Parties.read(parties), Moment(NOON / 1000 + began, began), False, Moment(NOON / 1000 + ended, ended), True))
+    return log
 
 
 def make_loose(path: pathlib.Path) -> None:
@@ -145,9 +135,7 @@ class Damaged(unittest.IsolatedAsyncioTestCase):
 
     async def asyncSetUp(self) -> None:
         asyncio.get_running_loop().set_debug(False)
-        quiet = mock.patch.object(notes, "print", lambda *_, **__: None, create=True)
-        quiet.start()
-        self.addCleanup(quiet.stop)
+        self.enterContext(quiet_notes())
 
     async def test_a_look_takes_all_or_nothing(self) -> None:
         """The fault names the row. Once the row is right again, the same file is read."""
@@ -156,8 +144,7 @@ class Damaged(unittest.IsolatedAsyncioTestCase):
             make_loose(good)
             for table, column, value in self.ROWS:
                 shutil.copy(good, path)
-                with closing(sqlite3.connect(path)) as conn, conn:
-                    conn.execute(f"UPDATE {table} SET {column} = ? WHERE number = (SELECT max(number) FROM {table} WHERE {column} IS NOT NULL)", (value,))
+                change_records(path, f"UPDATE {table} SET {column} = ? WHERE number = (SELECT max(number) FROM {table} WHERE {column} IS NOT NULL)", value)
                 reader = RecordReader(RecordsKeys(file=str(path)))
                 with self.subTest(column=column, value=value):
                     await reader.look()
@@ -196,52 +183,47 @@ class Damaged(unittest.IsolatedAsyncioTestCase):
 class LastCalls(Folder):
     """The calls of the records and those that the hub saw, as one list."""
 
+    def recorded(self, terms: int = 3) -> RecordedLog:
+        """The log of a file with some terms."""
+        recorded = RecordedLog()
+        recorded.take(read_new(str(make_records(self.folder / "site.db", terms)), None))
+        return recorded
+
     def find(self, log: CallLog, terms: int, wanted: CallFilter = ALL, most: int = 100) -> list[tuple[int, bool, str | None]]:
         """Calls: number, whether each has ended, and the cause. The hub is five seconds late at most."""
-        recorded = RecordedLog()
-        recorded.take(read_new(str(make_records(self.folder / f"site{terms}.db", terms)), None))
-        return [(it.number, it.ended is not None, it.cause) for it in recorded.find(log, wanted, most, 5.0)]
+        return [(it.number, it.ended is not None, it.cause) for it in self.recorded(terms).find(log, wanted, most, 5.0)]
 
     def test_records_alone(self) -> None:
-        self.assertEqual(self.find(CallLog(10), 3), [(5, True, "maximum"), (4, True, "radio_left"), (3, True, "carrier_lost"), (2, True, "ended_by_operator"), (1, True, "hang_time")])
-        self.assertEqual(self.find(CallLog(10), 3, CallFilter(radio=1001), most=2), [(4, True, "radio_left"), (2, True, "ended_by_operator")])
+        self.assertEqual(self.find(log_of(), 3), [(5, True, "maximum"), (4, True, "radio_left"), (3, True, "carrier_lost"), (2, True, "ended_by_operator"), (1, True, "hang_time")])
+        self.assertEqual(self.find(log_of(), 3, CallFilter(radio=1001), most=2), [(4, True, "radio_left"), (2, True, "ended_by_operator")])
+        self.assertEqual(self.find(log_of((1, (0, 1), "radio 1003 from 1001", 10, 25)), 0), [(1, True, None)])
 
     def test_times(self) -> None:
-        recorded = RecordedLog()
-        recorded.take(read_new(str(make_records(self.folder / "site.db")), None))
+        recorded = self.recorded()
         call = next(recorded.ended.find(ALL))
         self.assertEqual((call.began.wall, call.ended and call.ended.wall, call.seconds, call.slot, str(call.parties), recorded.until),
                          (NOON / 1000 + 112, NOON / 1000 + 149.5, 37.5, (0, 1), str(Parties("group", 91, 1002)), NOON / 1000 + 160))
 
     def test_seen_calls_before_the_last_term_are_the_records(self) -> None:
         """The first two terms end at 30 s. A call that the hub saw end after that is listed, the others are not."""
-        log = CallLog(10)
-        seen(log, 1, (0, 1), "radio 1003 from 1001", 10, 25)
-        seen(log, 2, (1, 0), "group 93 from 1003", 20, 30)
-        seen(log, 3, (0, 1), "group 91 from 1002", 31, 40)
+        log = log_of((1, (0, 1), "radio 1003 from 1001", 10, 25), (2, (1, 0), "group 93 from 1003", 20, 30), (3, (0, 1), "group 91 from 1002", 31, 40))
         self.assertEqual(self.find(log, 2)[:2], [(3, True, None), (4, True, "radio_left")])
 
     def test_an_end_that_was_seen_late(self) -> None:
         """A call of the records ended at 24 s. The hub saw one of the same parties end at 31 s, too late to be the same. Then one at 28 s, just after the end of
         a last term at 27 s: that is the same, and one of other parties is not."""
-        log = CallLog(10)
-        seen(log, 7, (0, 1), "radio 1003 from 1001", 10, 31)
-        self.assertEqual(self.find(log, 2)[0], (7, True, None))
-        recorded = RecordedLog()
-        recorded.take(read_new(str(make_records(self.folder / "late.db", 2)), None))
+        self.assertEqual(self.find(log_of((7, (0, 1), "radio 1003 from 1001", 10, 31)), 2)[0], (7, True, None))
+        recorded = self.recorded(2)
         recorded.until = NOON / 1000 + 27
-        log = CallLog(10)
-        seen(log, 8, (0, 1), "radio 1003 from 1001", 10, 28)
-        seen(log, 9, (0, 1), "radio 1003 from 1002", 10, 28)
+        log = log_of((8, (0, 1), "radio 1003 from 1001", 10, 28), (9, (0, 1), "radio 1003 from 1002", 10, 28))
         self.assertEqual([it.number for it in recorded.find(log, ALL, 3, 5.0)], [9, 4, 3])
 
     def test_the_clock_is_set_back(self) -> None:
         """All calls that were seen and recorded before have ended later than the last term. They are listed once, and soon."""
-        recorded, log, last = RecordedLog(), CallLog(10_000), 4000
-        for number in range(last):
-            seen(log, number, (0, 1), f"group {number + 1} from 1001", 7200 + number, 7201 + number)
-            recorded.ended.append(next(log.ended.find(ALL)))
-        recorded.until = NOON / 1000
+        recorded, last = RecordedLog(until=NOON / 1000), 4000
+        log = log_of(*((number, (0, 1), f"group {number + 1} from 1001", 7200 + number, 7201 + number) for number in range(last)))
+        for call in reversed([*log.ended.find(ALL)]):
+            recorded.ended.append(call)
         began = time.thread_time()
         found = recorded.find(log, ALL, 100, 5.0)
         self.assertLess(time.thread_time() - began, 0.2)
@@ -253,71 +235,53 @@ class LastCalls(Folder):
         log.look({(1, 1): "group 92 from 1003"}, Moment(NOON / 1000 + 200, 200))
         self.assertEqual(self.find(log, 3, most=2), [(1, False, None), (5, True, "maximum")])
 
-    def test_no_record_yet(self) -> None:
-        log = CallLog(10)
-        seen(log, 1, (0, 1), "radio 1003 from 1001", 10, 25)
-        self.assertEqual(self.find(log, 0), [(1, True, None)])
-
-    def test_each_cause_is_kept(self) -> None:
-        for cause, kept in (*((it, it) for it in CAUSES), (None, None), ("=1+1", "other")):
-            call = SeenCall(1, (15, 1), Parties("radio", 16777215, 1), Moment(1.5, 2.5), True, Moment(3.5, 4.5), True, cause)
-            found = unpack_call(RECORD.unpack(pack_call(call)))
-            self.assertEqual((found.cause, found.is_older, found.is_end_seen, found.parties.kind, found.slot), (kept, True, True, "radio", (15, 1)))
-
 
 class Served(WebCase):
     """A hub that reads the records."""
 
     async def asyncSetUp(self) -> None:
         await super().asyncSetUp()
-        self.path = await asyncio.to_thread(make_records, pathlib.Path(self.folder, "site.db"), 2)
-
-    async def figures(self) -> dict[str, float]:
-        """The samples that the hub serves."""
-        return samples_of((await self.get("/metrics")).body.decode())
+        make_records(self.db, 2)
 
     async def until_terms(self, count: int) -> dict[str, float]:
         """Waits until `count` terms are counted. The samples then."""
-        until = time.monotonic() + 20
-        while (found := await self.figures())["dmr_site_terms_total"] != count:
-            assert time.monotonic() < until, found
-            await asyncio.sleep(0.05)
-        return found
+        assert self.hub.records
+        terms = self.hub.records.counts.terms
+        await wait_until(lambda: terms.get() == count, 20)
+        return await self.metrics()
 
     async def test_counters_and_a_new_term(self) -> None:
-        await self.serve(records=str(self.path))
+        await self.serve(records=self.db)
         found = await self.until_terms(2)
         self.assertEqual((found["dmr_site_longest_queue"], found["dmr_site_call_duration_seconds_count"]), (2, 4))
-        add_term(self.path, 3)
+        add_term(self.db, 3)
         found = await self.until_terms(3)
         self.assertEqual({name: found.get(name) for name in TOTALS}, TOTALS)
         # a file that does not change is not read again
-        self.assertEqual((await self.figures())["dmr_hub_records_reads_total"], found["dmr_hub_records_reads_total"])
+        self.assertEqual((await self.metrics())["dmr_hub_records_reads_total"], found["dmr_hub_records_reads_total"])
 
     async def test_the_controllers_version(self) -> None:
         """It is in the file that the controller locks. Without that file, or with another text in it, the metric is absent."""
         lock = pathlib.Path(self.folder, "site.lock")
-        hub = await self.serve(records=str(self.path))
-        await self.until_terms(2)
-        self.assertFalse(any(name.startswith("dmr_site_controller_info") for name in await self.figures()))
+        hub = await self.serve(records=self.db)
+        self.assertFalse(any(name.startswith("dmr_site_controller_info") for name in await self.metrics()))
         for text, wanted in (("dmr_trunk 0.1.0\n", "0.1.0"), ('dmr_trunk "\n', None), ("dmr_trunk 0.2.0~rc1\n", "0.2.0~rc1"), ("", None)):
             lock.write_text(text, encoding="utf-8")
             await wait_until(lambda wanted=wanted: hub.records and hub.records.version == wanted)  # type: ignore[misc]
-            found = [name for name in await self.figures() if name.startswith("dmr_site_controller_info")]
+            found = [name for name in await self.metrics() if name.startswith("dmr_site_controller_info")]
             self.assertEqual(found, [f'dmr_site_controller_info{{version="{wanted}"}}'] if wanted else [])
         lock.unlink()
         os.mkfifo(lock)
-        self.assertIsNone(read_controller_version(str(self.path)))
+        self.assertIsNone(read_controller_version(str(self.db)))
 
     async def test_a_locked_file(self) -> None:
         """The hub answers at once, and has the new rows when the file is free."""
-        await self.serve(records=str(self.path))
-        await self.until_terms(2)
-        add_term(self.path, 3)
-        with locked(self.path):
-            faults = (await self.figures())["dmr_hub_records_faults_total"]
-            until = time.monotonic() + 20
-            while (await self.figures())["dmr_hub_records_faults_total"] < faults + 1:
+        hub = await self.serve(records=self.db)
+        assert hub.records
+        add_term(self.db, 3)
+        with locked(self.db):
+            faults, until = hub.records.counts.faults.get(), time.monotonic() + 20
+            while hub.records.counts.faults.get() == faults:
                 assert time.monotonic() < until
                 began = time.monotonic()
                 await self.assert_unharmed()
@@ -326,25 +290,23 @@ class Served(WebCase):
 
     async def test_a_file_that_comes_later(self) -> None:
         path = pathlib.Path(self.folder, "later.db")
-        hub = await self.serve(records=str(path))
-        await wait_until(lambda: hub.records and hub.records.fault == f"{path}: No such file or directory")
+        hub = await self.serve(records=path)
+        self.assertEqual(hub.records and hub.records.fault, f"{path}: No such file or directory")
         make_records(path)
         await self.until_terms(3)
         self.assertIsNone(hub.records and hub.records.fault)
 
     async def test_a_damaged_row(self) -> None:
         """The hub does its other work."""
-        with closing(sqlite3.connect(self.path)) as conn, conn:
-            conn.execute("UPDATE calls SET target = -1 WHERE number = 2")
-        hub = await self.serve(records=str(self.path))
-        await wait_until(lambda: hub.records and hub.records.fault == f"{self.path}: calls, row 2: target is -1")
-        self.assertEqual((await self.figures())["dmr_site_terms_total"], 0)
+        change_records(self.db, "UPDATE calls SET target = -1 WHERE number = 2")
+        hub = await self.serve(records=self.db)
+        self.assertEqual(hub.records and hub.records.fault, f"{self.db}: calls, row 2: target is -1")
+        self.assertEqual((await self.metrics())["dmr_site_terms_total"], 0)
         await self.assert_unharmed()
 
     async def test_last_calls(self) -> None:
-        await self.serve(records=str(self.path))
-        await self.until_terms(2)
-        view = json.loads((await self.get("/v1/calls.json?radio=1003&last=5")).body)
+        await self.serve(records=self.db)
+        view = await self.view("/v1/calls.json?radio=1003&last=5")
         self.assertEqual(view["recorded_until"], "2026-11-27T12:00:30.000Z")
         self.assertEqual([{name: it[name] for name in ("number", "recorded", "cause", "began", "ended", "seconds", "older", "end_seen")} for it in view["calls"] if it["recorded"]],
                          [{"number": 4, "recorded": True, "cause": "radio_left", "began": "2026-11-27T12:00:09.000Z", "ended": "2026-11-27T12:00:24.000Z", "seconds": 15, "older": False,
@@ -357,9 +319,5 @@ class Served(WebCase):
     async def test_without_records(self) -> None:
         await self.serve()
         self.assertNotIn("dmr_site_calls_total", (await self.get("/metrics")).body.decode())
-        view = json.loads((await self.get("/v1/calls.json")).body)
+        view = await self.view("/v1/calls.json")
         self.assertEqual((view["recorded_until"], {it["recorded"] for it in view["calls"]}, {it["cause"] for it in view["calls"]}), (None, {False}, {None}))
-
-
-if __name__ == "__main__":
-    unittest.main()

@@ -1,11 +1,12 @@
 """The calls that the hub has seen: begun, ended and moved between pictures, over a lost connection, and in memory that does not grow."""
 import tracemalloc
 import unittest
+from dataclasses import replace
 
 from temzaar.console import Parties, SlotKey
 from temzaar.hub.moment import Moment
 from temzaar.hub.seencalls import MOST_ENDED, RECORD, CallFilter, CallLog, CallRing, SeenCall, pack_call, unpack_call
-
+from temzaar.records import CAUSES
 
 # Every call is asked for.
 ALL = CallFilter()
@@ -41,18 +42,13 @@ class Looked(unittest.TestCase):
         found = log.find(ALL, 10)[0]
         self.assertEqual((found.seconds, found.is_older, found.is_end_seen, found.began.wall), (2, False, True, 1001))
 
-    def test_an_active_call_has_no_end(self) -> None:
-        log = log_of({(0, 1): "group 91 from 1001"})
-        self.assertEqual(shown(log), [(1, (0, 1), "group 91 from 1001", 1, None)])
-        self.assertIsNone(log.find(ALL, 1)[0].seconds)
-
-    def test_other_parties_on_a_slot_are_another_call(self) -> None:
-        log = log_of({(0, 1): "group 91 from 1001"}, {(0, 1): "group 91 from 1002"})
-        self.assertEqual(shown(log), [(2, (0, 1), "group 91 from 1002", 2, None), (1, (0, 1), "group 91 from 1001", 1, 2)])
-
-    def test_a_call_that_moves_to_another_slot_is_two_calls(self) -> None:
-        log = log_of({(0, 1): "radio 1002 from 1003"}, {(1, 0): "radio 1002 from 1003"}, {})
-        self.assertEqual(shown(log), [(2, (1, 0), "radio 1002 from 1003", 2, 3), (1, (0, 1), "radio 1002 from 1003", 1, 2)])
+    def test_which_calls_there_are(self) -> None:
+        """An active call has no end. Other parties on a slot are another call, and a call that moves to another slot is two."""
+        group, other, radio = "group 91 from 1001", "group 91 from 1002", "radio 1002 from 1003"
+        for pictures, calls in (([{(0, 1): group}], [(1, (0, 1), group, 1, None)]), ([{(0, 1): group}, {(0, 1): other}], [(2, (0, 1), other, 2, None), (1, (0, 1), group, 1, 2)]),
+                                ([{(0, 1): radio}, {(1, 0): radio}, {}], [(2, (1, 0), radio, 2, 3), (1, (0, 1), radio, 1, 2)])):
+            self.assertEqual(shown(log_of(*pictures)), calls)
+        self.assertIsNone(log_of({(0, 1): group}).find(ALL, 1)[0].seconds)
 
     def test_active_calls_come_first_and_the_last_ended_next(self) -> None:
         log = log_of({(0, 1): "group 91 from 1", (1, 0): "group 92 from 2", (1, 1): "group 93 from 3"}, {(0, 1): "group 91 from 1", (1, 1): "group 93 from 3"}, {(0, 1): "group 91 from 1"})
@@ -99,9 +95,12 @@ class Kept(unittest.TestCase):
     """The ring of calls that have ended."""
 
     def test_records(self) -> None:
-        for kind, older, seen in (("group", True, False), ("radio", False, True), ("radio", True, True)):
-            call = SeenCall(1 << 40, (15, 1), Parties(kind, 99_999_999, 16_777_215), Moment(1.8e9, 12.5), older, Moment(1.8e9 + 1, 13.5), seen)
-            self.assertEqual(unpack_call(RECORD.unpack(pack_call(call))), call)
+        """A cause that is not known is another one."""
+        causes = (*((it, it) for it in CAUSES), (None, None), ("=1+1", "other"))
+        for cause, kept in causes:
+            for kind, older, seen in (("group", True, False), ("radio", False, True), ("radio", True, True)):
+                call = SeenCall(1 << 40, (15, 1), Parties(kind, 99_999_999, 16_777_215), Moment(1.8e9, 12.5), older, Moment(1.8e9 + 1, 13.5), seen, cause)
+                self.assertEqual(unpack_call(RECORD.unpack(pack_call(call))), replace(call, cause=kept))
 
     def test_the_oldest_goes(self) -> None:
         ring = CallRing(3)

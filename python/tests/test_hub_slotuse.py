@@ -1,7 +1,6 @@
 """The charts' samples of times without a picture: how many slots had a call by the controller's records. What is expected was worked out by hand."""
 import asyncio
 import contextlib
-import json
 import pathlib
 import sqlite3
 import tempfile
@@ -9,7 +8,6 @@ import time
 import unittest
 from unittest import mock
 
-from temzaar.hub import notes
 from temzaar.hub.config import RecordsKeys
 from temzaar.hub.moment import Moment
 from temzaar.hub.recordreader import RecordReader
@@ -17,6 +15,7 @@ from temzaar.hub.samples import FIGURES, Samples, Span, Summary
 from temzaar.hub.slotuse import Used, slots_used, summaries
 from temzaar.recordgaps import LOST, Gap, Piece, edges_of, pieces
 from temzaar.records import opened_records
+from tests.hub_support import change_records, make_recent_records, quiet_notes
 from tests.made_records import NOON, add_term, insert, make_records
 from tests.test_hub_web import WebCase
 
@@ -56,9 +55,7 @@ class FromFile(unittest.TestCase):
     """What is read of a file of records, 160 s after noon. The steady clock is that of noon less 1,000 times 2 minutes, so its samples begin as those of the time since 1970 do."""
 
     def setUp(self) -> None:
-        folder = tempfile.TemporaryDirectory()
-        self.addCleanup(folder.cleanup)
-        self.path = pathlib.Path(folder.name, "site.db")
+        self.path = pathlib.Path(self.enterContext(tempfile.TemporaryDirectory()), "site.db")
         self.shift = NOON // 1000 - 120_000
 
     def used(self, span: str, since: int = 0, now: float = 160, off: int = 0) -> dict[int, tuple[float, float, float]]:
@@ -87,16 +84,14 @@ class FromFile(unittest.TestCase):
         make_records(self.path)
         self.assertEqual(self.used("hour", since=2), {**BEFORE_30, **AFTER_100})
         self.assertEqual(self.used("hour", since=3), {})
-        with contextlib.closing(sqlite3.connect(self.path)) as conn, conn:
-            conn.execute("UPDATE calls SET began_ms = ? WHERE number = 5", (NOON + 21_000,))
+        change_records(self.path, "UPDATE calls SET began_ms = ? WHERE number = 5", NOON + 21_000)
         self.assertEqual({number: it for number, it in self.used("hour", since=2).items() if number in (3, 4, 5)}, {3: (1, 1, 1), 4: (1, 1.6, 2), 5: (1, 1, 1)})
 
     def test_what_is_older_than_the_span_or_of_the_future(self) -> None:
         make_records(self.path)
         found = self.used("hour", now=3600)
         self.assertEqual(found, {number: it for number, it in {**BEFORE_30, **AFTER_100}.items() if number >= 0})
-        with contextlib.closing(sqlite3.connect(self.path)) as conn, conn:
-            conn.execute("UPDATE terms SET ended_ms = ended_ms + ? WHERE number = 3", (10**14,))
+        change_records(self.path, "UPDATE terms SET ended_ms = ended_ms + ? WHERE number = 3", 10**14)
         began = time.thread_time()
         self.used("hour")
         self.assertLess(time.thread_time() - began, 2)
@@ -158,17 +153,9 @@ class Refilled(unittest.TestCase):
         span = samples.spans["hour"]
         self.assertEqual([place for place, it in enumerate(span.summaries("slots_in_use", span.places(Moment(1000, 60)))) if it], [704])
 
-    def test_memory(self) -> None:
-        samples = Samples()
-        before = sum(span.octets() for span in samples.spans.values())
-        for number in range(20_000):
-            samples.refill("slots_in_use", {name: [Used(number, Summary(1, 1, 1))] for name in samples.spans}, Moment(5 * number + 7, 5 * number + 7))
-        self.assertEqual(sum(span.octets() for span in samples.spans.values()), before)
-
     def test_term_by_term(self) -> None:
         """The second term has the end of a call that began in the first: its samples are right once that is recorded."""
-        quiet = mock.patch.object(notes, "print", lambda *_, **__: None, create=True)
-        with quiet, tempfile.TemporaryDirectory() as folder:
+        with quiet_notes(), tempfile.TemporaryDirectory() as folder:
             path = make_records(pathlib.Path(folder, "site.db"), terms=1)
             reader = RecordReader(RecordsKeys(file=str(path)))
             self.addCleanup(reader.worker.close)
@@ -189,15 +176,9 @@ class Served(WebCase):
 
     async def test_history(self) -> None:
         """The records are moved so that the third term ended 30 s ago."""
-        path = await asyncio.to_thread(make_records, pathlib.Path(self.folder, "site.db"))
-        later = int(1000 * (time.time() - 30)) - NOON - 160_000
-        with contextlib.closing(sqlite3.connect(path)) as conn, conn:
-            conn.execute("UPDATE terms SET ended_ms = ended_ms + ?", (later,))
-            conn.execute("UPDATE calls SET began_ms = began_ms + ?, ended_ms = ended_ms + ?", (later, later))
-        hub = await self.serve(records=str(path))
-        while not hub.records or hub.records.last is None:
-            await asyncio.sleep(0.02)
-        view = json.loads((await self.get("/v1/history.json")).body)
+        make_recent_records(self.db)
+        await self.serve(records=self.db)
+        view = await self.view("/v1/history.json")
         figures, pictures = view["figures"], view["pictures"]
         known = [place for place, mean in enumerate(figures["slots_in_use"]["mean"]) if mean is not None and not pictures[place]]
         # 60 and 30 s, and 60 s after a gap: at each of the four ends a part of a sample is left out
@@ -205,7 +186,3 @@ class Served(WebCase):
         self.assertTrue(all(figures[figure][column][place] is None for figure in FIGURES if figure != "slots_in_use" for column in ("min", "mean", "max") for place in known))
         # 6, 3, 12, 15 and 37.5 s with a call, of which less than two samples each are left out at the ends
         self.assertAlmostEqual(sum(figures["slots_in_use"]["mean"][place] for place in known) * 5, 73.5, delta=0.1)
-
-
-if __name__ == "__main__":
-    unittest.main()

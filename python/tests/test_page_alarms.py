@@ -1,18 +1,16 @@
 """The page's alarms in a headless Chromium, over a hub that asks a stand-in for the console: what the site cannot do is said, and nothing that is not so."""
 import os
-import unittest
 
+from tests.fake_console import OFF_AIR, WAITING
 from tests.made_records import add_term
-from tests.page_standin import OFF_AIR, UP, StandInPage
-
-WAITING = ["slot 0 0 control", "slot 0 1 free", "slot 1 0 waiting", "slot 1 1 free", "end"]
+from tests.page_standin import UP, StandInPage
 
 
 class Alarms(StandInPage):
     """One session, in its order."""
 
     def test_a_session(self) -> None:
-        self.open_page()
+        self.browser.open(self.base)
         self.wait_for_text("#freshness", "^✓ controller answers, live$")
         self.assertEqual((self.browser.text("#alarms"), self.browser.text("h1"), self.browser.evaluate("document.title")), ("", "Depot North", "Depot North"))
         self.assertEqual(self.browser.text("#figure-control"), "Control channel on air carrier 0")
@@ -21,7 +19,7 @@ class Alarms(StandInPage):
         self.check_a_burst_that_waits()
         self.check_gaps()
         self.check_records_that_cannot_be_read()
-        self.assertEqual(self.browser.complaints(), [])
+        self.assert_harmless()
 
     def check_no_control_channel(self) -> None:
         """The control carrier is down: its control slot does not seem to be on the air, and no slot is free."""
@@ -52,7 +50,3 @@ class Alarms(StandInPage):
         os.rename(self.folder / "away.db", self.records)
         add_term(self.records, 3)
         self.wait_for_text("#alarms", "^$")
-
-
-if __name__ == "__main__":
-    unittest.main()

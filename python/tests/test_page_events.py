@@ -1,9 +1,7 @@
 """The events on the operators' page, in a headless Chromium over a hub that asks a stand-in for the console: what is over and was not acknowledged stays."""
-import unittest
-
 from temzaar.hubconsole import HubConsole
-from tests.page_standin import OFF_AIR, UP, StandInPage
-from tests.test_page_in_browser import EXCESS_WIDTH, FAINT_TEXTS
+from tests.fake_console import OFF_AIR
+from tests.page_standin import UP, StandInPage
 
 HTML = "<img src=x onerror=alert(1)>"
 
@@ -19,22 +17,18 @@ class Events(StandInPage):
 
     def ask(self, line: str) -> None:
         """Sends a line to the hub."""
-        with HubConsole(f"{self.folder}/s") as console:
+        with HubConsole(f"{self.folder}/console.sock") as console:
             console.ask(line)
 
     def test_a_session(self) -> None:
-        self.open_page()
+        self.browser.open(self.base)
         self.wait_for_text("#events-waiting", r"^No event waits for an acknowledgement\.$")
         self.assertEqual(self.browser.text("#figure-events"), "To acknowledge 0")
         self.check_an_alarm_that_is_over()
         self.check_an_acknowledgement()
         self.check_looks()
         self.check_the_switch()
-        self.assertEqual(self.browser.complaints(), [])
-        self.assertEqual(self.browser.evaluate("document.querySelectorAll('img').length"), 0)
-        asked = self.browser.requested()
-        self.assertEqual([it for it in asked if not it.startswith(f"http://127.0.0.1:{self.port}/") and it != "about:blank"], [])
-        self.assertEqual({it["params"]["request"]["method"] for it in self.browser.events if it["method"] == "Network.requestWillBeSent"}, {"GET"})
+        self.assert_harmless()
 
     def check_an_alarm_that_is_over(self) -> None:
         """The control channel is lost, and is back: no alarm is left, and the event waits, by mark and words."""
@@ -48,10 +42,8 @@ class Events(StandInPage):
         self.wait_for_text("#events-waiting", r"^▲ 1 event waits for an acknowledgement\.$")
         self.assertEqual(self.browser.text("#figure-events"), "To acknowledge 1 see events")
         self.assertRegex(self.browser.text("#events-note"), r"^Events from \S+ \d+ \d\d:\d\d:\d\d on\. A user with the role full acknowledges with dmr_console: acknowledge, and the number, or all\.$")
-        roles = {(it["role"]["value"], it.get("name", {}).get("value", "")) for it in self.browser.call("Accessibility.getFullAXTree")["nodes"] if not it["ignored"]}
-        for role, name in (("region", "Events"), ("heading", "Events"), ("columnheader", "Acknowledgement"), ("group", "Which events"), ("button", "All")):
-            self.assertIn((role, name), roles)
-        self.assertIn("status", {role for role, _ in roles})
+        self.assert_roles(("region", "Events"), ("heading", "Events"), ("columnheader", "Acknowledgement"), ("group", "Which events"), ("button", "All"))
+        self.assertIn("status", {it["role"]["value"] for it in self.browser.call("Accessibility.getFullAXTree")["nodes"] if not it["ignored"]})
 
     def check_an_acknowledgement(self) -> None:
         """It is shown with the user, and nothing waits. The row keeps its place in time."""
@@ -65,10 +57,9 @@ class Events(StandInPage):
         self.fake.replies["slots"] = OFF_AIR
         self.wait_for_text("#events-waiting", "^▲ 1 event waits")
         for width, dark in ((1280, False), (1500, True), (390, True), (320, False)):
-            self.open_page(width, dark)
+            self.browser.open(self.base, width, dark=dark)
             self.wait_for_text("#events-waiting", "^▲ 1 event waits")
-            self.assertEqual(self.browser.evaluate(FAINT_TEXTS), [], (width, dark))
-            self.assertEqual(self.browser.evaluate(EXCESS_WIDTH), 0, width)
+            self.assert_clear()
 
     def check_the_switch(self) -> None:
         """Without refused requests the hub is asked for another list."""
@@ -77,7 +68,3 @@ class Events(StandInPage):
         self.assertEqual(self.browser.evaluate("[...document.querySelectorAll('button[data-refusals]')].map((it) => it.getAttribute('aria-pressed'))"), ["false", "true"])
         # the switch of the charts is another one
         self.assertEqual(self.browser.evaluate("document.querySelector('button[data-span=hour]').getAttribute('aria-pressed')"), "true")
-
-
-if __name__ == "__main__":
-    unittest.main()

@@ -2,70 +2,27 @@
 
 A carrier is down and comes up, radios register, and a call begins and ends. Its history is opened by the keyboard. The page is light and dark, and as narrow as
 a phone. Then the controller goes away, and the hub. No request goes to another host."""
-import json
-import re
-import unittest
-
-from temzaar.sitefile import FREE_PORTS, Site
-from tests.browser import Chromium, find_chromium
-from tests.page_scene import Scene
-from tests.support import TWO_CARRIERS, program
+from tests.page_standin import ScenePage
 
 # A term of so few entries ends each six seconds.
 ENTRIES = 300
-# Everything that is shown in text of a colour too near to that of its background: less than 4.5 to 1 (WCAG 2.2, 1.4.3).
-FAINT_TEXTS = """(() => {
-  const parse = (colour) => { const found = colour.match(/[\\d.]+/g).map(Number); return found.length > 3 ? found : [...found, 1]; };
-  const over = (top, below) => [0, 1, 2].map((n) => top[n] * top[3] + below[n] * (1 - top[3]));
-  const light = (colour) => { const [r, g, b] = colour.slice(0, 3).map((it) => { const part = it / 255; return part <= 0.03928 ? part / 12.92 : ((part + 0.055) / 1.055) ** 2.4; });
-    return 0.2126 * r + 0.7152 * g + 0.0722 * b; };
-  const backOf = (element) => { let back = null; const stack = []; for (let it = element; it; it = it.parentElement) { stack.push(parse(getComputedStyle(it).backgroundColor)); }
-    back = [255, 255, 255]; for (const colour of stack.reverse()) { back = over(colour, back); } return back; };
-  const faint = [];
-  for (const element of document.querySelectorAll("body *")) {
-    const own = [...element.childNodes].some((it) => it.nodeType === 3 && it.textContent.trim());
-    if (!own || !element.checkVisibility() || element.closest("svg, .unseen, dialog:not([open]), noscript") || element.disabled) { continue; }
-    const back = backOf(element); const text = over(parse(getComputedStyle(element).color), back);
-    const [high, low] = [light(text), light(back)].sort((a, b) => b - a); const ratio = (high + 0.05) / (low + 0.05);
-    if (ratio < 4.5) { faint.push(`${element.tagName} ${element.className} ${element.textContent.trim().slice(0, 30)}: ${ratio.toFixed(2)}`); }
-  }
-  return faint;
-})()"""
-# How far the page is wider than the window.
-EXCESS_WIDTH = "document.documentElement.scrollWidth - document.documentElement.clientWidth"
 
-
-class InBrowser(unittest.TestCase):
+class InBrowser(ScenePage):
     """One session, in its order."""
-
-    def setUp(self) -> None:
-        built, found = program("dmr_trunk"), find_chromium()
-        self.scene = Scene(built, Site(TWO_CARRIERS, first_port=FREE_PORTS, hang=8, term_entries=ENTRIES))
-        self.addCleanup(self.scene.close)
-        self.browser = Chromium(found)
-        self.addCleanup(self.browser.close)
-
-    def wait_for_text(self, selector: str, pattern: str) -> None:
-        """Waits until an element shows a text."""
-        self.browser.wait_until(lambda: bool(re.search(pattern, self.browser.text(selector))), f"{selector}: {pattern}")
+    words = {"term_entries": ENTRIES}
 
     def open_board(self, width: int, dark: bool) -> None:
         """Opens the page again, and waits until it shows what the hub knows."""
-        self.browser.open(self.scene.base, width, 800, dark)
+        self.browser.open(self.base, width, 800, dark)
         self.wait_for_text("#carriers-rows", "^0 up")
         self.wait_for_text("#calls-rows", "group 91")
         self.wait_for_text("#radios-note", "registered")
         self.browser.wait_for("document.querySelectorAll('#charts-grid .plot svg .mean').length === 5")
 
-    def roles(self) -> set[tuple[str, str]]:
-        """Roles and names of what a screen reader is given."""
-        nodes = self.browser.call("Accessibility.getFullAXTree")["nodes"]
-        return {(it["role"]["value"], it.get("name", {}).get("value", "")) for it in nodes if not it["ignored"]}
-
     def test_a_session(self) -> None:
         player = self.scene.player
         player.join_carrier(0)
-        self.browser.open(self.scene.base)
+        self.browser.open(self.base)
         self.check_a_carrier_that_is_down()
         player.join_carrier(1)
         self.wait_for_text("#freshness", "^✓ controller answers, live$")
@@ -78,7 +35,7 @@ class InBrowser(unittest.TestCase):
         self.check_the_charts()
         self.check_looks()
         self.check_roles()
-        self.assertEqual(self.browser.complaints(), [])
+        self.assert_harmless()
         self.check_the_controller_away()
         self.check_the_hub_away()
         self.check_requests()
@@ -138,8 +95,7 @@ class InBrowser(unittest.TestCase):
         """Light, dark and a phone: no faint text, and nothing outside the window."""
         for width, dark in ((1280, False), (1280, True), (390, False), (320, True)):
             self.open_board(width, dark)
-            self.assertEqual(self.browser.evaluate(FAINT_TEXTS), [], (width, dark))
-            self.assertEqual(self.browser.evaluate(EXCESS_WIDTH), 0, width)
+            self.assert_clear()
         before = self.browser.evaluate("getComputedStyle(document.body).backgroundColor")
         self.browser.evaluate("document.querySelector('button[data-colours=light]').click()")
         self.assertNotEqual(self.browser.evaluate("getComputedStyle(document.body).backgroundColor"), before)
@@ -148,11 +104,9 @@ class InBrowser(unittest.TestCase):
 
     def check_roles(self) -> None:
         """Landmarks, headings, tables with headers, a live region and the charts have roles and names."""
-        roles = self.roles()
-        for wanted in (("banner", ""), ("main", ""), ("contentinfo", ""), ("alert", "Alarms"), ("heading", "Depot North"), ("region", "Carriers and slots"), ("region", "Queue"),
-                       ("region", "Last calls"), ("region", "Registered radios"), ("region", "Charts"), ("columnheader", "Slot 0"), ("columnheader", "Lasted"), ("rowheader", "0 up"),
-                       ("slider", "Slots in use: time of a sample"), ("group", "Colours"), ("button", "group 91"), ("button", "radio 1001")):
-            self.assertIn(wanted, roles)
+        self.assert_roles(("banner", ""), ("main", ""), ("contentinfo", ""), ("alert", "Alarms"), ("heading", "Depot North"), ("region", "Carriers and slots"), ("region", "Queue"),
+                          ("region", "Last calls"), ("region", "Registered radios"), ("region", "Charts"), ("columnheader", "Slot 0"), ("columnheader", "Lasted"), ("rowheader", "0 up"),
+                          ("slider", "Slots in use: time of a sample"), ("group", "Colours"), ("button", "group 91"), ("button", "radio 1001"))
 
     def check_the_controller_away(self) -> None:
         """The controller ends: an alarm with the reason, and the picture is called the last one."""
@@ -161,7 +115,7 @@ class InBrowser(unittest.TestCase):
         self.wait_for_text("#alarms", r"^✕ ALARM Controller away since \d\d:\d\d:\d\d: \w.*$")
         self.wait_for_text("#freshness", r"^✕ controller away, the picture is 0:\d\d old$")
         self.assertIn("The last picture, not the present one.", self.browser.text("#carriers"))
-        self.assertEqual(self.browser.evaluate(FAINT_TEXTS), [])
+        self.assert_clear()
 
     def check_the_hub_away(self) -> None:
         """The hub ends: the page says so by itself."""
@@ -169,13 +123,10 @@ class InBrowser(unittest.TestCase):
         self.wait_for_text("#alarms", r"^✕ ALARM The hub does not answer\. What is shown is not the present state\.$")
 
     def check_requests(self) -> None:
-        """Everything that the page asked for is the hub's, and is a GET of one of its paths."""
-        asked = self.browser.requested()
-        self.assertEqual([it for it in asked if not it.startswith(self.scene.base) and it != "about:blank"], [])
-        paths = {it.removeprefix(self.scene.base).partition("?")[0] for it in asked}
+        """Everything that the page asked for is a path of the hub, and was answered."""
+        self.assert_own_requests()
+        paths = {it.removeprefix(self.base).partition("?")[0] for it in self.browser.requested()}
         self.assertLessEqual({"", "page/board.js", "page/board.css", "v1/state.json", "v1/calls.json", "v1/radios.json", "v1/history.json"}, paths)
         answered = [it["params"]["response"] for it in self.browser.events if it["method"] == "Network.responseReceived"]
         self.assertEqual({it["status"] for it in answered}, {200, 304})
         self.assertEqual({it["status"] for it in answered if "/v1/calls.json?last" in it["url"]}, {200, 304})
-        methods = {it["params"]["request"]["method"] for it in self.browser.events if it["method"] == "Network.requestWillBeSent"}
-        self.assertEqual(methods, {"GET"}, json.dumps(sorted(paths)))

@@ -2,32 +2,17 @@
 page is open. There are a hundred thousand of them, and the page asks for those that it shows."""
 import json
 import re
-import unittest
 
-from temzaar.sitefile import FREE_PORTS, Site
-from tests.browser import Chromium, find_chromium
-from tests.page_scene import Scene
-from tests.support import TWO_CARRIERS, program
-from tests.test_page_in_browser import EXCESS_WIDTH, FAINT_TEXTS
+from tests.page_standin import ScenePage
 
 HTML = "<img src=x onerror=alert(1)>"
 FEW = f"radio,1001,Bus 12\nradio,1002,{HTML}\nradio,1500,Bus 99\ntalkgroup,91,Drivers\ncarrier,0,Mast North\ncarrier,1,{'W' * 40}\n"
 MANY = FEW + "".join(f"radio,{number},Unit {number}\n" for number in range(100_001, 200_001 - FEW.count("\n")))
 
 
-class Names(unittest.TestCase):
+class Names(ScenePage):
     """One session, in its order."""
-
-    def setUp(self) -> None:
-        built, found = program("dmr_trunk"), find_chromium()
-        self.scene = Scene(built, Site(TWO_CARRIERS, first_port=FREE_PORTS, hang=8), names=MANY)
-        self.addCleanup(self.scene.close)
-        self.browser = Chromium(found)
-        self.addCleanup(self.browser.close)
-
-    def wait_for_text(self, selector: str, pattern: str) -> None:
-        """Waits until an element shows a text."""
-        self.browser.wait_until(lambda: bool(re.search(pattern, self.browser.text(selector))), f"{selector}: {pattern}")
+    names = MANY
 
     def type_filter(self, text: str) -> None:
         """Types a text into the filter of radios and names."""
@@ -47,8 +32,7 @@ class Names(unittest.TestCase):
         self.check_the_search()
         self.check_the_looks()
         self.check_a_change()
-        self.assertEqual(self.browser.complaints(), [])
-        self.assertEqual(self.browser.evaluate("document.querySelectorAll('img').length"), 0)
+        self.assert_harmless()
         asked = {it.removeprefix(self.scene.base) for it in self.browser.requested() if "/v1/" in it}
         self.assertEqual({it for it in asked if "radios" in it or "names" in it} - {"v1/radios.json?most=200", "v1/radios.json?most=200&begins=1002"},
                          {f"v1/names.json?most=50&find={text}" for text in ("bus", "img%20src", "1002", "Unit%201")})
@@ -93,8 +77,7 @@ class Names(unittest.TestCase):
         """No faint text, and nothing outside the window, however long a name is."""
         for width in (1280, 320):
             self.browser.resize(width, 800)
-            self.assertEqual(self.browser.evaluate(FAINT_TEXTS), [], width)
-            self.assertEqual(self.browser.evaluate(EXCESS_WIDTH), 0, width)
+            self.assert_clear()
 
     def check_a_change(self) -> None:
         """A new name is shown in rows that were there before; of a bad file an alarm says so, and the names stay."""
@@ -104,7 +87,3 @@ class Names(unittest.TestCase):
         self.scene.write_names("nothing\n")
         self.wait_for_text("#alarms", r"ALARM The hub cannot read the names: .*names\.csv: line 1: not kind,number,name, three fields with commas between them; no line of the file is right")
         self.assertIn("1001 [Bus 14]", self.browser.text("#radios-list"))
-
-
-if __name__ == "__main__":
-    unittest.main()

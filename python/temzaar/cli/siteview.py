@@ -16,6 +16,7 @@ Status: 0 the user left, or the picture was printed; 1 the site file, the consol
 words.
 """
 import argparse
+import contextlib
 import os
 import select
 import shutil
@@ -25,7 +26,6 @@ import textwrap
 import time
 import tty
 from collections.abc import Iterable, Iterator, Sequence
-from typing import Protocol
 
 from temzaar.cli.command import add_names_option, address_of_words, amount_above, clean_up_on_signals, parse_words, print_note, run_command
 from temzaar.console import LONGEST_LINE, Console, ConsoleFault, SlotKey, Status
@@ -47,15 +47,8 @@ MOST_TYPED = LONGEST_LINE + 20
 # A part of a row: its text, and the state that colours it.
 Part = tuple[str, str]
 Row = list[Part]
-
-
-class NameSource(Protocol):
-    """A source of names; `fault` is why they may be old ones."""
-    fault: str
-
-    def find(self, texts: Iterable[str]) -> Names:
-        """The names that are next to the numbers of some texts."""
-        ...
+# What finds names. Its `fault` is why they may be old ones.
+NameSource = FileNames | HubNames
 
 
 def texts_of(picture: Picture) -> list[str]:
@@ -125,34 +118,35 @@ def paint_rows(rows: Iterable[Row], width: int, height: int) -> str:
     return "\x1b[H" + "".join(f"{line}\x1b[K\r\n" for line in out) + "\x1b[J"
 
 
-class Screen:
+@contextlib.contextmanager
+def screen() -> Iterator[None]:
     """The terminal while siteview runs. Keys arrive one by one; at the end the terminal's settings are restored."""
-
-    def __enter__(self) -> "Screen":
-        self.before = termios.tcgetattr(sys.stdin)
-        tty.setcbreak(sys.stdin)
-        sys.stdout.write("\x1b[?1049h\x1b[2J")
-        return self
-
-    def __exit__(self, *_: object) -> None:
+    before = termios.tcgetattr(sys.stdin)
+    tty.setcbreak(sys.stdin)
+    sys.stdout.write("\x1b[?1049h\x1b[2J")
+    try:
+        yield
+    finally:
         sys.stdout.write("\x1b[?1049l")
         sys.stdout.flush()
-        termios.tcsetattr(sys.stdin, termios.TCSADRAIN, self.before)
+        termios.tcsetattr(sys.stdin, termios.TCSADRAIN, before)
 
-    def show(self, rows: Iterable[Row], typed: str, answer: list[str]) -> None:
-        """Shows the rows, and below them the line that is typed and the last answer."""
-        width, height = shutil.get_terminal_size()
-        answers: list[Row] = [[(line, "")] for line in textwrap.wrap("  |  ".join(answer), width)]
-        below: list[Row] = [[], [(f"> {typed}", "title")], *answers]
-        room = max(0, height - 1 - len(below))
-        sys.stdout.write(paint_rows(list(rows)[:room] + below, width, height - 1))
-        sys.stdout.flush()
 
-    def keys(self, seconds: float) -> str:
-        """The keys that are typed within `seconds`; the end of input counts as Ctrl-D."""
-        if select.select([sys.stdin], [], [], seconds)[0]:
-            return os.read(sys.stdin.fileno(), 256).decode("utf-8", "replace") or LEAVE
-        return ""
+def show_rows(rows: Iterable[Row], typed: str, answer: list[str]) -> None:
+    """Shows the rows, and below them the line that is typed and the last answer."""
+    width, height = shutil.get_terminal_size()
+    answers: list[Row] = [[(line, "")] for line in textwrap.wrap("  |  ".join(answer), width)]
+    below: list[Row] = [[], [(f"> {typed}", "title")], *answers]
+    room = max(0, height - 1 - len(below))
+    sys.stdout.write(paint_rows(list(rows)[:room] + below, width, height - 1))
+    sys.stdout.flush()
+
+
+def typed_keys(seconds: float) -> str:
+    """The keys that are typed within `seconds`; the end of input counts as Ctrl-D."""
+    if select.select([sys.stdin], [], [], seconds)[0]:
+        return os.read(sys.stdin.fileno(), 256).decode("utf-8", "replace") or LEAVE
+    return ""
 
 
 class Prompt:
@@ -213,13 +207,13 @@ class View:
 def watch(console: Console, name: str, seconds: float, source: NameSource | None) -> None:
     """Shows the site, a new picture every `seconds`, until the user leaves it."""
     view, prompt = View(console, name, source), Prompt(console, source)
-    with Screen() as screen:
+    with screen():
         while True:
             until = time.monotonic() + seconds
             view.look()
             while (left := until - time.monotonic()) > 0:
-                screen.show(view.rows(), prompt.typed, prompt.answer)
-                if prompt.take_keys(screen.keys(left)):
+                show_rows(view.rows(), prompt.typed, prompt.answer)
+                if prompt.take_keys(typed_keys(left)):
                     return
 
 

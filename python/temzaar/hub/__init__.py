@@ -6,18 +6,14 @@ Modules, lowest first:
     config     the keys of the config file
     moment     times, and their text
     counts     counters, gauges and histograms, and their text for Prometheus
-    fairqueue  a queue in which those who ask take turns
     worker     a thread for work that may hang
-    quota      a limit of what is written about each user
     turn       long work has a part of the loop's time, and users a pace
-    link       the connection to the controller's console
+    link       the connection to the controller's console, and the queue of those who ask it
     seencalls  the calls that the hub has seen, in memory of a fixed size
-    samples    figures of the last hour and the last day, in memory of a fixed size
+    samples    figures and counts of the last hour and the last day, in memory of a fixed size
     newrecords what is new in the controller's file of records
-    recordcounts   counters of the records, and the calls that are recorded
-    recordsamples  counts of the records over the last hour and the last day
+    recordcounts   counters of the records, the calls that are recorded, and the times that are not
     termwatch  terms that come late, and polls that are missing
-    recordgapcounts  the times that the records do not have
     slotuse    slots in use by the records, for times of which there is no picture
     recordreader   looks at the file every few seconds
     model      the state of the site, as the last answers had it
@@ -29,15 +25,14 @@ Modules, lowest first:
     lines      the lines of operators
     roles      who a peer is, and what it may do
     audit      the audit log
-    notes      what the hub writes to standard error, and to systemd
+    notes      what the hub writes to standard error, with a limit for each user, and to systemd
     places     who has a place, for lines and for HTTP alike
     session    an operator's connection: lines and their replies
     lineport   the port that operators connect to
     views      the site as JSON and as metrics, and whether all is well
     eventviews the events as JSON, and as rows of the line port
-    httpread   requests of HTTP, read from octets
+    httpread   requests of HTTP and their queries, read from octets
     web        the HTTP port
-    query      the queries of HTTP paths
     boardviews the site's parts, seen calls and samples as JSON
     pagefiles  the files of the operators' page, which are in page/
     service    all of it together, from start to stop

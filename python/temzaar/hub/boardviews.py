@@ -1,20 +1,19 @@
 """What the hub shows to its page, and to other readers of parts: the state without radios, the radios, the seen calls, the events, and the samples, as JSON."""
 import time
+from collections import defaultdict
 from collections.abc import Callable
 from dataclasses import dataclass, field
 from typing import Any
 
 from temzaar.hub.eventlog import EventFilter
 from temzaar.hub.eventviews import events_view
-from temzaar.hub.httpread import Request
-from temzaar.hub.keys import Choice, Instant, Sought, Whole
+from temzaar.hub.httpread import Kinds, Request, read_query
+from temzaar.hub.keys import choice, instant, sought_text, whole_number
 from temzaar.hub.model import SiteModel
 from temzaar.hub.moment import Moment, utc_text
 from temzaar.hub.namebook import Row
-from temzaar.hub.query import read_query
 from temzaar.hub.recordreader import RecordReader
-from temzaar.hub.recordsamples import KINDS
-from temzaar.hub.samples import FIGURES, SPANS, Span, Summary
+from temzaar.hub.samples import FIGURES, KINDS, SPANS, Span, Summary
 from temzaar.hub.seencalls import CallFilter, SeenCall
 from temzaar.hub.views import MISSED_POLLS, Views, json_octets, names_of_parties, names_of_radios, rounded
 from temzaar.hub.web import JSON, Response, tagged_response
@@ -26,11 +25,11 @@ from temzaar.recordgaps import gaps_within
 USUAL_CALLS, MOST_CALLS = 100, 1000
 # How many responses of a path are kept, each of some 400,000 octets at most.
 MOST_KEPT = 16
-CALL_KEYS = {"radio": Whole(1, LAST_RADIO), "group": Whole(1, LAST_RADIO), "from": Instant(), "to": Instant(), "last": Whole(1, MOST_CALLS)}
-EVENT_KEYS = {"from": Instant(), "to": Instant(), "refusals": Choice("yes", "no"), "last": Whole(1, MOST_CALLS)}
-RADIO_KEYS = {"begins": Whole(1, LAST_RADIO), "most": Whole(1, MOST_CALLS)}
-NAME_KEYS = {"find": Sought(MOST_CHARACTERS), "most": Whole(1, MOST_CALLS)}
-HISTORY_KEYS = {"span": Choice(*SPANS)}
+CALL_KEYS = {"radio": whole_number(1, LAST_RADIO), "group": whole_number(1, LAST_RADIO), "from": instant(), "to": instant(), "last": whole_number(1, MOST_CALLS)}
+EVENT_KEYS = {"from": instant(), "to": instant(), "refusals": choice("yes", "no"), "last": whole_number(1, MOST_CALLS)}
+RADIO_KEYS = {"begins": whole_number(1, LAST_RADIO), "most": whole_number(1, MOST_CALLS)}
+NAME_KEYS = {"find": sought_text(MOST_CHARACTERS), "most": whole_number(1, MOST_CALLS)}
+HISTORY_KEYS = {"span": choice(*SPANS)}
 
 
 @dataclass
@@ -51,13 +50,9 @@ class Kept:
 
 @dataclass
 class BoardViews:
-    """The views of the page. Responses that take long to make are kept."""
+    """The views of the page. Responses that take long to make are kept, by their paths."""
     views: Views
-    kept_radios: Kept = field(default_factory=Kept)
-    kept_calls: Kept = field(default_factory=Kept)
-    kept_events: Kept = field(default_factory=Kept)
-    kept_history: Kept = field(default_factory=Kept)
-    kept_names: Kept = field(default_factory=Kept)
+    kept: dict[str, Kept] = field(default_factory=lambda: defaultdict(Kept))
 
     @property
     def model(self) -> SiteModel:
@@ -72,35 +67,31 @@ class BoardViews:
             del view["radios"]["names"]
         return Response(json_octets(view), JSON)
 
-    @property
-    def names(self) -> Names:
-        """The names that are known."""
-        return self.views.names
-
     def radios_json(self, request: Request) -> Response:
         """The registered radios, or those that the query asks for. The response stays the same until the list or names change. BadRequest: the query is refused."""
-        made_of = self.model.radios_changed, self.views.book.version
-        return self.kept_radios.find(made_of, request.query, lambda: self._make_radios(request.query))
+        return self._find(request, RADIO_KEYS, (self.model.radios_changed, self.views.book.version), self._make_radios)
 
-    def _make_radios(self, text: str) -> Response:
-        """The radios by a query. BadRequest: it is refused."""
-        query, radios, changed = read_query(text, RADIO_KEYS), self.model.radios, self.model.radios_changed
+    def _find(self, request: Request, kinds: Kinds, made_of: object, make: Callable[[dict[str, Any]], Response]) -> Response:
+        """The response to a request: the kept one, or one that is made of its query. BadRequest: the query is refused."""
+        return self.kept[request.path].find(made_of, request.query, lambda: make(read_query(request.query, kinds)))
+
+    def _make_radios(self, query: dict[str, Any]) -> Response:
+        """The radios by a query."""
+        radios, changed = self.model.radios, self.model.radios_changed
         if radios is None or changed is None:
             return tagged_response(json_octets(None), JSON)
         found = [it for it in radios.radios if str(it).startswith(str(query["begins"]))] if "begins" in query else radios.radios
         listed = found[:query.get("most")]
         view = {"changed": utc_text(changed.wall, decimals=True), "complete": radios.is_complete, "registered": listed, "count": len(radios.radios), "found": len(found),
-                "names": names_of_radios(listed, self.names)}
+                "names": names_of_radios(listed, self.views.names)}
         return tagged_response(json_octets(view), JSON)
 
     def names_json(self, request: Request) -> Response:
         """The names that have a text in them. The response stays the same until names or the registered radios change. BadRequest: the query is refused."""
-        made_of = self.model.radios_changed, self.views.book.version
-        return self.kept_names.find(made_of, request.query, lambda: self._make_names(request.query))
+        return self._find(request, NAME_KEYS, (self.model.radios_changed, self.views.book.version), self._make_names)
 
-    def _make_names(self, text: str) -> Response:
-        """The names by a query. BadRequest: it is refused."""
-        query = read_query(text, NAME_KEYS)
+    def _make_names(self, query: dict[str, Any]) -> Response:
+        """The names by a query."""
         rows, is_complete = self.views.book.index.find(query.get("find", ""), query.get("most", USUAL_CALLS))
         return tagged_response(json_octets({"complete": is_complete, "names": [name_view(it, self.model.radios) for it in rows]}), JSON)
 
@@ -109,25 +100,25 @@ class BoardViews:
         BadRequest: the query is refused."""
         log, recorded = self.model.calls, self.views.records.log if self.views.records else None
         made_of = log.count, log.ended.count, recorded and (recorded.until, recorded.ended.count), self.views.book.version
-        return self.kept_calls.find(made_of, request.query, lambda: self._make_calls(request.query))
+        return self._find(request, CALL_KEYS, made_of, self._make_calls)
 
-    def _make_calls(self, text: str) -> Response:
-        """The calls by a query. BadRequest: it is refused."""
-        query, log = read_query(text, CALL_KEYS), self.model.calls
+    def _make_calls(self, query: dict[str, Any]) -> Response:
+        """The calls by a query."""
+        log = self.model.calls
         first, last = (query[name] / 1000 if name in query else None for name in ("from", "to"))
         wanted, most = CallFilter(query.get("radio"), query.get("group"), first, last), query.get("last", USUAL_CALLS)
         found, recorded = self._find_calls(wanted, most + 1), self.views.records.log if self.views.records else None
         until, ring = recorded.until if recorded else None, recorded.ended if recorded else log.ended
         view = {"since": utc_text(self.views.begun.wall, decimals=True), "poll_seconds": self.views.config.poll.state_seconds, "seen": log.count, "kept": log.ended.size,
                 "recorded_until": None if until is None else utc_text(until, decimals=True), "complete": len(found) <= most and not ring.has_lost(first),
-                "calls": [call_view(it, self.names) for it in found[:most]], "name": self._name_asked(query)}
+                "calls": [call_view(it, self.views.names) for it in found[:most]], "name": self._name_asked(query)}
         return tagged_response(json_octets(view), JSON)
 
     def _name_asked(self, query: dict[str, Any]) -> str | None:
         """The name of the group or the radio that a query names."""
         if "group" in query:
-            return self.names.name_of(Kind.TALKGROUP, query["group"])
-        return self.names.name_of(Kind.RADIO, query["radio"]) if "radio" in query else None
+            return self.views.names.name_of(Kind.TALKGROUP, query["group"])
+        return self.views.names.name_of(Kind.RADIO, query["radio"]) if "radio" in query else None
 
     def _find_calls(self, wanted: CallFilter, most: int) -> list[SeenCall]:
         """The calls that are asked for. Of those that ended before the last recorded term did, the records have the last word."""
@@ -137,25 +128,22 @@ class BoardViews:
 
     def events_json(self, request: Request) -> Response:
         """The events by the query. The response stays the same until one is added or changes. BadRequest: the query is refused."""
-        made_of = self.views.events.version, self.model.control, self.views.book.version
-        return self.kept_events.find(made_of, request.query, lambda: self._make_events(request.query))
+        return self._find(request, EVENT_KEYS, (self.views.events.version, self.model.control, self.views.book.version), self._make_events)
 
-    def _make_events(self, text: str) -> Response:
-        """The events by a query. BadRequest: it is refused."""
-        query = read_query(text, EVENT_KEYS)
+    def _make_events(self, query: dict[str, Any]) -> Response:
+        """The events by a query."""
         wanted = EventFilter(query.get("from"), query.get("to"), query.get("refusals") != "no")
-        view = events_view(self.views.events, wanted, query.get("last", USUAL_CALLS), self.model.control, self.names)
+        view = events_view(self.views.events, wanted, query.get("last", USUAL_CALLS), self.model.control, self.views.names)
         return tagged_response(json_octets(view), JSON)
 
     def history_json(self, request: Request) -> Response:
         """The samples of a span. The response stays the same within a second, until a new picture or term. BadRequest: the query is refused."""
         made_of = int(time.monotonic()), self.model.seen, self.views.records and self.views.records.log.until
-        return self.kept_history.find(made_of, request.query, lambda: self._make_history(request.query))
+        return self._find(request, HISTORY_KEYS, made_of, self._make_history)
 
-    def _make_history(self, text: str) -> Response:
-        """The samples by a query. BadRequest: it is refused."""
-        name = read_query(text, HISTORY_KEYS).get("span", next(iter(SPANS)))
-        now = Moment.now()
+    def _make_history(self, query: dict[str, Any]) -> Response:
+        """The samples by a query."""
+        name, now = query.get("span", next(iter(SPANS))), Moment.now()
         view = span_view(name, self.model.samples.spans[name], now)
         view["recorded"] = recorded_view(self.views.records, name, now.wall)
         return Response(json_octets(view), JSON)
@@ -188,9 +176,9 @@ def recorded_view(records: RecordReader | None, name: str, now: float) -> dict[s
     """The counts of a span by the records, oldest first; None if no term was read."""
     if records is None or records.log.until is None:
         return None
-    span = records.samples.spans[name]
-    begins, began_ms = span.oldest(now) * span.step, records.gaps.begins_ms
-    gaps = gaps_within(records.gaps.newest, 1000 * begins, None)
+    span = records.samples[name]
+    begins, began_ms = span.oldest(now) * span.step, records.log.begins_ms
+    gaps = gaps_within(records.log.gaps, 1000 * begins, None)
     return {"begins": utc_text(begins), "from": None if began_ms is None else utc_text(began_ms / 1000, decimals=True), "until": utc_text(records.log.until, decimals=True),
             "gaps": [{"from": utc_text(it.from_ms / 1000, decimals=True), "to": utc_text(it.to_ms / 1000, decimals=True), "why": it.why} for it in gaps],
             "counts": {kind: span.of(kind, now) for kind in KINDS}}

@@ -6,6 +6,8 @@ Labels = tuple[tuple[str, str], ...]
 
 # Seconds. An answer takes well under a millisecond; the end of a term delays one by some 2 to 8 ms, and by more on a busy host.
 ANSWER_BUCKETS = (0.0005, 0.001, 0.0025, 0.005, 0.01, 0.025, 0.05, 0.1, 0.25, 0.5, 1.0)
+# Seconds: a call lasts from the hang time, some seconds, up to the maximum of the site file, some minutes. A request may wait as long.
+MINUTES = (1.0, 2.0, 5.0, 10.0, 20.0, 30.0, 60.0, 120.0, 180.0, 300.0)
 
 
 def number_text(value: float) -> str:
@@ -65,10 +67,10 @@ class Histogram:
         self.counts[bisect.bisect_left(self.bounds, value)] += 1
         self.sum += value
 
-    def add(self, counts: list[int], total: float) -> None:
-        """Counts values that were sorted by these bounds already, the last ones above all of them; `total` is their sum."""
-        self.counts = [before + more for before, more in zip(self.counts, counts, strict=True)]
-        self.sum += total
+    def add(self, other: "Histogram") -> None:
+        """Counts the values of another histogram with the same bounds."""
+        self.counts = [before + more for before, more in zip(self.counts, other.counts, strict=True)]
+        self.sum += other.sum
 
     def lines(self) -> Iterator[str]:
         """The lines of the format."""
@@ -81,7 +83,15 @@ class Histogram:
         yield sample_line(f"{self.name}_count", (), below)
 
 
-class HubCounts:
+class Counts:
+    """Counters, gauges and histograms, each of them an attribute."""
+
+    def all_series(self) -> list[Series | Histogram]:
+        """Everything that is counted, in the order in which it is shown."""
+        return [it for it in vars(self).values() if isinstance(it, Series | Histogram)]
+
+
+class HubCounts(Counts):
     """What the hub counts of its own work."""
 
     def __init__(self) -> None:
@@ -102,7 +112,3 @@ class HubCounts:
         self.http_refusals = Series("dmr_hub_http_refusals_total", "HTTP connections that were refused because too many were served.")
         for series in (self.http_refusals, self.connects, self.losses, self.poll_faults, self.line_accepts, self.audit_records, self.audit_faults):
             series.add(0)
-
-    def all_series(self) -> list[Series | Histogram]:
-        """Everything that is counted, in the order in which it is shown."""
-        return [it for it in vars(self).values() if isinstance(it, Series | Histogram)]

@@ -51,7 +51,7 @@ class EventFeed:
         if event == "asked":
             self._add_command(record)
         elif event in ("answered", "unanswered", "not sent"):
-            kept = self._command_of(record["id"]) or self._add_command(record)
+            kept = next((it for it in reversed(self.log.kinds[EventKind.COMMAND]) if it.mark == record["id"]), None) or self._add_command(record)
             if kept and event == "not sent":
                 self.log.remove(kept)
             elif kept:
@@ -68,10 +68,6 @@ class EventFeed:
         kept = self.log.insert(SiteEvent(time_of(record), EventKind.COMMAND, line=line, user=user))
         kept.mark = text_of(record, "id")
         return kept
-
-    def _command_of(self, mark: str) -> KeptEvent | None:
-        """The event of a command, by the name that its records share."""
-        return next((it for it in reversed(self.log.kinds[EventKind.COMMAND]) if it.mark == mark), None)
 
     def _restore_acknowledged(self, record: Mapping[str, Any]) -> None:
         """Adds the events that an operator acknowledged before the hub's start."""

@@ -11,7 +11,7 @@ from heapq import nlargest
 from temzaar.siteevents import MOST_OF_A_KIND, NEED_ACKNOWLEDGEMENT, EventKind, SiteEvent
 
 # Kinds that may be one event: the records do not say who sent a command.
-FAMILIES = ((EventKind.COMMAND, EventKind.PAST_HUB),)
+COMMANDS = (EventKind.COMMAND, EventKind.PAST_HUB)
 # What ends what.
 ENDS = {EventKind.CARRIER_BACK: EventKind.CARRIER_LOST, EventKind.CONTROLLER_BACK: EventKind.CONTROLLER_AWAY}
 
@@ -76,14 +76,10 @@ class EventLog:
         self.begins_ms, self.kinds = begins_ms, {kind: deque[KeptEvent](maxlen=most) for kind in EventKind}
         self.count = self.version = self.forgotten = 0
 
-    def _family(self, kind: EventKind) -> Iterable[EventKind]:
-        """The kinds of which a report of an event may be."""
-        return next((it for it in FAMILIES if kind in it), (kind,))
-
     def find_twin(self, event: SiteEvent, slack_ms: int, is_recorded: bool) -> KeptEvent | None:
         """The event that another report is of: the nearest one; None if there is none yet."""
-        about = event.about
-        found = [(distance, kept) for kind in self._family(event.kind) for kept in self.kinds[kind]
+        about, kinds = event.about, COMMANDS if event.kind in COMMANDS else (event.kind,)
+        found = [(distance, kept) for kind in kinds for kept in self.kinds[kind]
                  if kept.about == about and (distance := kept.distance(event, slack_ms, is_recorded)) is not None]
         return min(found, key=lambda it: it[0])[1] if found else None
 

@@ -1,10 +1,8 @@
 """What the hub sees happen: it compares what is so with what was so at the look before, and adds events to the log."""
-import asyncio
 from collections.abc import Iterator
 from dataclasses import dataclass, field
 
 from temzaar.hub.eventfeed import EventFeed
-from temzaar.hub.eventlog import EventLog
 from temzaar.hub.link import ConsoleLink
 from temzaar.hub.model import SiteModel
 from temzaar.hub.moment import Moment
@@ -12,6 +10,7 @@ from temzaar.hub.namebook import NameBook
 from temzaar.hub.recordreader import RecordReader
 from temzaar.siteevents import EventKind, SiteEvent
 
+# Seconds from one look to the next.
 LOOK_SECONDS = 1.0
 # For how many seconds something has to be so before it is an event. The controller is away, or has not answered since the hub's start.
 AWAY_SECONDS, CONNECT_SECONDS = 1.0, 5.0
@@ -43,20 +42,9 @@ class EventWatch:
     holding: dict[Condition, bool] = field(default_factory=dict)
     began: dict[Condition, Moment] = field(default_factory=dict)
 
-    @property
-    def log(self) -> EventLog:
-        """The log."""
-        return self.feed.log
-
     def begin(self, now: Moment) -> None:
         """The hub has started."""
         self._add(SiteEvent(wall_ms(now), EventKind.HUB_STARTED))
-
-    async def run(self) -> None:
-        """Looks until it is cancelled."""
-        while True:
-            self.look(Moment.now())
-            await asyncio.sleep(LOOK_SECONDS)
 
     def look(self, now: Moment) -> None:
         """Adds what has begun or ended since the last look."""
@@ -106,13 +94,13 @@ class EventWatch:
 
     def _add(self, event: SiteEvent) -> None:
         """Adds an event that the hub saw."""
-        self.log.add(event, self.feed.slack_ms)
+        self.feed.log.add(event, self.feed.slack_ms)
 
     def _note_begin(self, condition: Condition, since: Moment, detail: str | None) -> None:
         """Something has begun. If a carrier's loss is known already, as from the records before a start of the hub, it is that one."""
         kind, carrier = condition
         event = SiteEvent(wall_ms(since), kind, carrier=carrier, detail=detail)
-        if kind is EventKind.CARRIER_LOST and self.log.open_of(kind, carrier) and not self.log.find_twin(event, self.feed.slack_ms, is_recorded=False):
+        if kind is EventKind.CARRIER_LOST and self.feed.log.open_of(kind, carrier) and not self.feed.log.find_twin(event, self.feed.slack_ms, is_recorded=False):
             return
         self._add(event)
 
@@ -124,15 +112,15 @@ class EventWatch:
         elif kind is EventKind.CONTROLLER_AWAY:
             self._add(SiteEvent(wall_ms(self.link.state.since), EventKind.CONTROLLER_BACK))
         # it is over, also if the clock was set back meanwhile
-        for kept in self.log.open_of(kind, carrier):
-            self.log.end(kind, carrier, max(kept.event.at_ms, wall_ms(now)))
+        for kept in self.feed.log.open_of(kind, carrier):
+            self.feed.log.end(kind, carrier, max(kept.event.at_ms, wall_ms(now)))
 
     def _close_losses(self) -> None:
         """Ends the losses of the records whose carriers are up: the records of the end may be missing."""
-        for carrier in {it.event.carrier for it in self.log.kinds[EventKind.CARRIER_LOST] if it.ended_ms is None}:
+        for carrier in {it.event.carrier for it in self.feed.log.kinds[EventKind.CARRIER_LOST] if it.ended_ms is None}:
             known = self.model.carriers.get(carrier) if carrier is not None and self._has_picture() else None
             if known and known.is_up:
-                self.log.end(EventKind.CARRIER_LOST, carrier, wall_ms(known.since))
+                self.feed.log.end(EventKind.CARRIER_LOST, carrier, wall_ms(known.since))
 
 
 def wall_ms(moment: Moment) -> int:

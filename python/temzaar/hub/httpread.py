@@ -1,4 +1,4 @@
-"""A request of HTTP, read from octets. Nothing here waits, reads or writes.
+"""A request of HTTP, read from octets, and its query. Nothing here waits, reads or writes.
 
 The octets are those of strangers. So no pattern has two parts that can trade the same octets, and a test measures how long
 64 KiB of each kind of octet take.
@@ -8,15 +8,22 @@ from collections.abc import Collection, Iterator, Mapping
 from dataclasses import dataclass
 from http import HTTPStatus
 from itertools import islice
+from typing import Any
+
+from temzaar.hub.keys import Kind
 
 END = b"\r\n\r\n"
 MOST_HEADERS = 64
 # How many tags of responses that the client has are looked at. A browser sends one.
 MOST_TAGS = 16
+# How many digits a number of a query has at most, and how much of an unknown key is shown.
+MOST_DIGITS, MOST_SHOWN = 8, 40
 VERSION = re.compile(r"HTTP/([0-9]\.[0-9])")
 NAME = re.compile(r"[!#$%&'*+.^_`|~0-9A-Za-z-]+")
 TAG = re.compile(r'"[^"]*"|\*')
 Headers = list[tuple[str, str]]
+# The keys of a query, each with the kind of its value.
+Kinds = Mapping[str, Kind]
 
 
 class BadRequest(Exception):
@@ -104,3 +111,22 @@ def check_headers(headers: Headers, version: str, hosts: Collection[str]) -> Non
         raise BadRequest(HTTPStatus.MISDIRECTED_REQUEST, "not a host of this port")
     if any(name == "transfer-encoding" or (name == "content-length" and value != "0") for name, value in headers):
         raise BadRequest(HTTPStatus.BAD_REQUEST, "a request has no body here")
+
+
+def read_query(text: str, kinds: Kinds) -> dict[str, Any]:
+    """The values of a query, as `radio=1001&last=50`, by its keys, each of its kind. BadRequest: a key is unknown, given twice, or of a wrong value; the
+    text names it."""
+    values: dict[str, Any] = {}
+    for part in filter(None, text.split("&")):
+        name, _, value = part.partition("=")
+        try:
+            if name not in kinds:
+                raise ValueError(f"unknown key: there is {', '.join(kinds)}")
+            if name in values:
+                raise ValueError("given twice")
+            # in a text zeros before a number count, and a time has more digits
+            is_number = not kinds[name].is_text and value.isascii() and value.isdecimal() and len(value) <= MOST_DIGITS
+            values[name] = kinds[name].read(int(value) if is_number else value)
+        except ValueError as fault:
+            raise BadRequest(HTTPStatus.BAD_REQUEST, f"{name[:MOST_SHOWN]}: {fault}") from fault
+    return values

@@ -1,169 +1,146 @@
-"""Kinds of values in the hub's config file, and a strict reader of its sections.
+"""Kinds of values in the hub's config file and in queries, and a strict reader of a section of that file.
 
 A section is a frozen dataclass whose fields are made by `key`. A key without a value in the file has its default. Unknown keys, other types and values out of
 range are faults, which name the key.
 """
 import dataclasses
-from collections.abc import Mapping
+from collections.abc import Callable, Mapping
 from datetime import datetime
-from typing import Any, Protocol, TypeVar
+from typing import Any, TypeVar
 from urllib.parse import unquote
 
 from temzaar.faults import ToolFault
 from temzaar.moments import LAST_MS, milliseconds_of
 
 Section = TypeVar("Section")
+# How many characters the text of a time has at most, if each is written as it is.
+MOST_OF_TIME = 40
 
 
 class ConfigFault(ToolFault):
     """The config file cannot be used. The text says why, with the key."""
 
 
-class Kind(Protocol):
-    """A kind of value. `says` describes it for documents and faults."""
+@dataclasses.dataclass(frozen=True)
+class Kind:
+    """A kind of value. `says` describes it for documents and faults. `find` returns the value of what a file or a query has; None, or ValueError with the
+    reason: that is not of this kind. `is_text`: in a query a number is a text too."""
     says: str
+    find: Callable[[Any], Any]
+    is_text: bool = False
 
     def read(self, value: Any) -> Any:
         """The value of a key. ValueError: it is not of this kind; the text says what is."""
-        ...
+        found = self.find(value)
+        if found is None:
+            raise ValueError(f"not {self.says}")
+        return found
 
 
-class Number:
+def kind_of(says: str, is_one: Callable[[Any], bool]) -> Kind:
+    """A kind whose values are used as they are."""
+    return Kind(says, lambda value: value if is_one(value) else None)
+
+
+def is_whole_number(value: Any) -> bool:
+    """Whether a value is a whole number. Python counts true and false as numbers."""
+    return isinstance(value, int) and not isinstance(value, bool)
+
+
+def number(low: float, high: float) -> Kind:
     """A number in a range, whole or with decimals."""
-
-    def __init__(self, low: float, high: float) -> None:
-        self.low, self.high, self.says = low, high, f"{low:g} to {high:g}"
-
-    def read(self, value: Any) -> float:
-        """The number."""
-        if isinstance(value, bool) or not isinstance(value, int | float):
-            raise ValueError(f"not a number: {self.says}")
-        if not self.low <= value <= self.high:
-            raise ValueError(f"out of range: {self.says}")
-        return float(value)
+    return in_range("number", low, high, lambda value: float(value) if isinstance(value, float) or is_whole_number(value) else None)
 
 
-class Whole:
+def whole_number(low: int, high: int) -> Kind:
     """A whole number in a range."""
-
-    def __init__(self, low: int, high: int) -> None:
-        self.low, self.high, self.says = low, high, f"{low} to {high}"
-
-    def read(self, value: Any) -> int:
-        """The number."""
-        if isinstance(value, bool) or not isinstance(value, int):
-            raise ValueError(f"not a whole number: {self.says}")
-        if not self.low <= value <= self.high:
-            raise ValueError(f"out of range: {self.says}")
-        return value
+    return in_range("whole number", low, high, lambda value: value if is_whole_number(value) else None)
 
 
-class FilePath:
+def in_range(called: str, low: float, high: float, find: Callable[[Any], Any]) -> Kind:
+    """The numbers in a range that `find` returns."""
+    says = f"{low} to {high}"
+
+    def find_in_range(value: Any) -> Any:
+        found = find(value)
+        if found is None:
+            raise ValueError(f"not a {called}: {says}")
+        if not low <= found <= high:
+            raise ValueError(f"out of range: {says}")
+        return found
+    return Kind(says, find_in_range)
+
+
+def file_path(or_none: bool = False) -> Kind:
     """An absolute path; it may be empty if `or_none` says so."""
-
-    def __init__(self, or_none: bool = False) -> None:
-        self.or_none, self.says = or_none, "an absolute path, or empty" if or_none else "an absolute path"
-
-    def read(self, value: Any) -> str:
-        """The path."""
-        if self.or_none and value == "":
-            return ""
-        if not isinstance(value, str) or not value.startswith("/") or "\0" in value:
-            raise ValueError(f"not {self.says}")
-        return value
+    def is_path(value: Any) -> bool:
+        return isinstance(value, str) and ((or_none and not value) or (value.startswith("/") and "\0" not in value))
+    return kind_of("an absolute path, or empty" if or_none else "an absolute path", is_path)
 
 
-class Text:
+def short_text(most: int) -> Kind:
     """A text of at most `most` printable characters. It may be empty."""
-
-    def __init__(self, most: int) -> None:
-        self.most, self.says = most, f"a text of at most {most} characters"
-
-    def read(self, value: Any) -> str:
-        """The text."""
-        if not isinstance(value, str) or len(value) > self.most or not value.isprintable():
-            raise ValueError(f"not {self.says}")
-        return value
+    return kind_of(f"a text of at most {most} characters", lambda value: isinstance(value, str) and len(value) <= most and value.isprintable())
 
 
-class Sought:
+def choice(*words: str) -> Kind:
+    """One of some words."""
+    return kind_of(" or ".join(f'"{word}"' for word in words), lambda value: isinstance(value, str) and value in words)
+
+
+def name_list(numbers: bool = False) -> Kind:
+    """A list of names, in which numbers count as names too if `numbers` says so."""
+    def is_name(value: Any) -> bool:
+        return (isinstance(value, str) and value != "") or (numbers and is_whole_number(value))
+    says = "a list of names or numbers" if numbers else "a list of names"
+    return Kind(says, lambda value: tuple(value) if isinstance(value, list) and all(map(is_name, value)) else None)
+
+
+def carrier_choice() -> Kind:
+    """Carriers: all of the site, none, or those of a list."""
+    says = '"all", "none" or a list of carriers'
+
+    def find(value: Any) -> str | tuple[int, ...]:
+        if value in ("all", "none"):
+            return str(value)
+        if not isinstance(value, list) or not all(is_whole_number(it) and 0 <= it <= 15 for it in value):
+            raise ValueError(f"not {says}, 0 to 15")
+        return tuple(value)
+    return Kind(says, find)
+
+
+def sought_text(most: int) -> Kind:
     """A text to search for, as a query of HTTP has it: other characters than letters and digits may be written as `%HH`."""
+    def find(value: str) -> str | None:
+        # a character has four octets at most, and each is written with three characters
+        text = unquoted(value, 12 * most)
+        return text if text.isprintable() and 1 <= len(text) <= most else None
+    return Kind(f"a text of 1 to {most} characters", find, is_text=True)
 
-    def __init__(self, most: int) -> None:
-        self.most, self.says = most, f"a text of 1 to {most} characters"
 
-    def read(self, value: Any) -> str:
-        """The text."""
+def instant() -> Kind:
+    """A time, in milliseconds since 1970, as a query of HTTP has it: of ISO 8601, with a zone, or as that number. Other characters than letters and digits
+    may be written as `%HH`."""
+    def find(value: str) -> int | None:
+        text = unquoted(value, 3 * MOST_OF_TIME)
         try:
-            # a character has four octets at most, and each is written with three characters
-            text = unquote(value, errors="strict") if len(value) <= 12 * self.most else ""
-        except UnicodeDecodeError:
-            text = ""
-        if not text.isprintable() or not 1 <= len(text) <= self.most:
-            raise ValueError(f"not {self.says}")
-        return text
-
-
-class Instant:
-    """A time, as a query of HTTP has it: of ISO 8601, with a zone, or in milliseconds since 1970. Other characters than letters and digits may be written as `%HH`."""
-    says = "a time with a zone, as 2026-11-27T08:00:00Z, or milliseconds since 1970"
-    # how many characters a text has at most, if each is written as it is
-    most = 40
-
-    def read(self, value: Any) -> int:
-        """The time, in milliseconds since 1970."""
-        try:
-            text = unquote(value, errors="strict") if len(value) <= 3 * self.most else ""
             if text.isascii() and text.isdecimal():
                 found = int(text)
             else:
                 moment = datetime.fromisoformat(text)
                 found = -1 if moment.tzinfo is None else milliseconds_of(moment)
         except (ValueError, OverflowError):
-            found = -1
-        if not 0 <= found <= LAST_MS:
-            raise ValueError(f"not {self.says}")
-        return found
+            return None
+        return found if 0 <= found <= LAST_MS else None
+    return Kind("a time with a zone, as 2026-11-27T08:00:00Z, or milliseconds since 1970", find, is_text=True)
 
 
-class Choice:
-    """One of some words."""
-
-    def __init__(self, *words: str) -> None:
-        self.words, self.says = words, " or ".join(f'"{word}"' for word in words)
-
-    def read(self, value: Any) -> str:
-        """The word."""
-        if value not in self.words or not isinstance(value, str):
-            raise ValueError(f"not {self.says}")
-        return value
-
-
-class Names:
-    """A list of names, in which numbers count as names too if `numbers` says so."""
-
-    def __init__(self, numbers: bool = False) -> None:
-        self.numbers, self.says = numbers, "a list of names or numbers" if numbers else "a list of names"
-
-    def read(self, value: Any) -> tuple[str | int, ...]:
-        """The names."""
-        allowed = (str, int) if self.numbers else (str,)
-        if not isinstance(value, list) or any(isinstance(it, bool) or not isinstance(it, allowed) or it == "" for it in value):
-            raise ValueError(f"not {self.says}")
-        return tuple(value)
-
-
-class CarrierChoice:
-    """Carriers: all of the site, none, or those of a list."""
-    says = '"all", "none" or a list of carriers'
-
-    def read(self, value: Any) -> str | tuple[int, ...]:
-        """The word, or the numbers."""
-        if value in ("all", "none"):
-            return str(value)
-        if not isinstance(value, list) or any(isinstance(it, bool) or not isinstance(it, int) or not 0 <= it <= 15 for it in value):
-            raise ValueError(f"not {self.says}, 0 to 15")
-        return tuple(value)
+def unquoted(text: str, most: int) -> str:
+    """A text of a query without `%HH`; empty if it is longer than `most` characters, or not UTF-8."""
+    try:
+        return unquote(text, errors="strict") if len(text) <= most else ""
+    except UnicodeDecodeError:
+        return ""
 
 
 def key(kind: Kind, default: Any, about: str) -> Any:

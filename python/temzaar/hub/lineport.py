@@ -39,23 +39,21 @@ class PortFault(ToolFault):
 
 def bind_socket(path: str) -> socket.socket:
     """A unix socket at a path, in place of one that nobody serves any more. PortFault: it cannot be made, or another hub serves it."""
-    made = socket.socket(socket.AF_UNIX, socket.SOCK_STREAM)
-    try:
-        if is_served(path):
-            raise PortFault(f"another process serves {path}")
-        with contextlib.suppress(FileNotFoundError):
-            if not stat.S_ISSOCK(os.lstat(path).st_mode):
-                raise PortFault(f"{path} is not a socket")
-            os.unlink(path)
-        made.bind(path)
-        os.chmod(path, SOCKET_MODE)
+    with contextlib.ExitStack() as undo:
+        made = undo.enter_context(socket.socket(socket.AF_UNIX, socket.SOCK_STREAM))
+        try:
+            if is_served(path):
+                raise PortFault(f"another process serves {path}")
+            with contextlib.suppress(FileNotFoundError):
+                if not stat.S_ISSOCK(os.lstat(path).st_mode):
+                    raise PortFault(f"{path} is not a socket")
+                os.unlink(path)
+            made.bind(path)
+            os.chmod(path, SOCKET_MODE)
+        except OSError as fault:
+            raise PortFault(f"cannot listen on {path}: {fault.strerror or fault}") from fault
+        undo.pop_all()
         return made
-    except OSError as fault:
-        made.close()
-        raise PortFault(f"cannot listen on {path}: {fault.strerror or fault}") from fault
-    except PortFault:
-        made.close()
-        raise
 
 
 def is_served(path: str) -> bool:
@@ -133,15 +131,14 @@ class LinePort:
         self.numbers = itertools.count(1)
         self.tasks: dict[asyncio.Task[None], Session | None] = {}
         self.listeners: list[Listener] = []
-        self.identity: tuple[int, int] | None = None
+        self.made: os.stat_result | None = None
 
     async def open(self) -> None:
         """Opens the ports. PortFault: one of them cannot be opened."""
         keys = self.desk.keys
-        made = bind_socket(keys.socket)
-        found = os.stat(keys.socket)
-        self.identity = found.st_dev, found.st_ino
-        self.listeners.append(Listener(made, self._accept, INPUT_OCTETS))
+        bound = bind_socket(keys.socket)
+        self.made = os.stat(keys.socket)
+        self.listeners.append(Listener(bound, self._accept, INPUT_OCTETS))
         note(f"operators: listening on {keys.socket}")
         if keys.tcp_port:
             self.listeners.append(listen_on_loopback(keys.tcp_port, self._accept, INPUT_OCTETS))
@@ -250,6 +247,5 @@ class LinePort:
     def _unlink(self) -> None:
         """Removes the socket's name, if it is still the one that was made."""
         with contextlib.suppress(OSError):
-            found = os.stat(self.desk.keys.socket)
-            if self.identity == (found.st_dev, found.st_ino):
+            if self.made and os.path.samestat(os.stat(self.desk.keys.socket), self.made):
                 os.unlink(self.desk.keys.socket)

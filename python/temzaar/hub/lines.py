@@ -74,25 +74,16 @@ def unescape_octets(text: str) -> bytes:
 class LineCutter:
     """Cuts lines from octets. It keeps no more than a line may have."""
 
-    def __init__(self, longest: int = LONGEST_LINE) -> None:
-        self.longest, self.begun, self.is_too_long = longest, bytearray(), False
+    def __init__(self) -> None:
+        # the line that has begun; empty once it is too long
+        self.begun, self.is_too_long = b"", False
 
     def feed(self, octets: bytes) -> list[bytes | None]:
         """The lines that end in these octets, each without its LF; None for one that is too long."""
-        *ends, rest = octets.split(b"\n")
-        lines: list[bytes | None] = []
-        for piece in ends:
-            self._add(piece)
-            lines.append(None if self.is_too_long else bytes(self.begun))
-            self.begun.clear()
-            self.is_too_long = False
-        self._add(rest)
+        *ends, begun = (self.begun + octets).split(b"\n")
+        lines = [None if len(it) > LONGEST_LINE else it for it in ends]
+        if self.is_too_long and lines:
+            lines[0] = None
+        self.is_too_long = len(begun) > LONGEST_LINE or (self.is_too_long and not lines)
+        self.begun = b"" if self.is_too_long else begun
         return lines
-
-    def _add(self, piece: bytes) -> None:
-        """Adds to the line that has begun."""
-        self.is_too_long = self.is_too_long or len(self.begun) + len(piece) > self.longest
-        if self.is_too_long:
-            self.begun.clear()
-        else:
-            self.begun += piece

@@ -4,20 +4,21 @@ While the controller is away each question fails at once, with the reason. A que
 only the first may have changed the site.
 """
 import asyncio
-import contextlib
 import os
 import random
+from collections import deque
 from collections.abc import Callable
 from dataclasses import dataclass, field
+from typing import Generic, TypeVar
 
 from temzaar.console import ConsoleFault, ReplyFrame, Status
 from temzaar.hub.config import ControllerKeys
 from temzaar.hub.counts import HubCounts
-from temzaar.hub.fairqueue import FairQueue
 from temzaar.hub.lines import AWAY, BUSY
 from temzaar.hub.moment import Moment
 from temzaar.sitefile import ConsolePlace, SiteFault
 
+Item = TypeVar("Item")
 STATUS = b"status"
 # The asker of the link's own questions, and of the poller's.
 HUB = "hub"
@@ -42,6 +43,36 @@ class NoAnswer(Exception):
 
 class LinkBroken(Exception):
     """The connection has ended, or cannot be used any more. The text says why."""
+
+
+class FairQueue(Generic[Item]):
+    """A queue in which those who ask take turns, so that one who asks a lot delays another by one item at most. The items of one asker leave in their order."""
+
+    def __init__(self) -> None:
+        # the askers in the order of their turns; none without an item
+        self.waiting: dict[str, deque[Item]] = {}
+
+    def push(self, asker: str, item: Item) -> None:
+        """Adds an item. An asker that has none gets the last turn."""
+        self.waiting.setdefault(asker, deque()).append(item)
+
+    def pop(self) -> Item | None:
+        """Removes the item whose turn it is; None if the queue is empty."""
+        if not self.waiting:
+            return None
+        asker = next(iter(self.waiting))
+        items = self.waiting.pop(asker)
+        item = items.popleft()
+        if items:
+            self.waiting[asker] = items
+        return item
+
+    def drain(self) -> list[Item]:
+        """Removes all items, in the order of their turns."""
+        return list(iter(self.pop, None))
+
+    def __len__(self) -> int:
+        return sum(map(len, self.waiting.values()))
 
 
 @dataclass
@@ -77,7 +108,7 @@ class ConsoleProtocol(asyncio.Protocol):
 
     def __init__(self, on_loss: Callable[[], None]) -> None:
         self.on_loss = on_loss
-        self.transport: asyncio.Transport | None = None
+        self.transport: asyncio.Transport
         self.pending: asyncio.Future[bytes] | None = None
         self.loss: str | None = None
         self.octets = bytearray()
@@ -92,8 +123,8 @@ class ConsoleProtocol(asyncio.Protocol):
     def ask(self, line: bytes) -> asyncio.Future[bytes]:
         """Sends a line. Its reply, to the octet, will be in the future; LinkBroken if the connection ends first."""
         self.pending = asyncio.get_running_loop().create_future()
-        if self.loss is not None or self.transport is None:
-            self.pending.set_exception(LinkBroken(self.loss or "not connected"))
+        if self.loss is not None:
+            self.pending.set_exception(LinkBroken(self.loss))
             mark_retrieved(self.pending)
         else:
             self.frame = ReplyFrame(line)
@@ -127,8 +158,7 @@ class ConsoleProtocol(asyncio.Protocol):
     def break_off(self, reason: str) -> None:
         """Ends the connection."""
         self.lose(reason)
-        if self.transport:
-            self.transport.abort()
+        self.transport.abort()
 
     def lose(self, reason: str) -> None:
         """Records the end of the connection, for the question that is pending too."""
@@ -277,16 +307,14 @@ class ConsoleLink:
             self.wake.clear()
             if console.loss is not None:
                 raise LinkBroken(console.loss)
-            question = self.queue.pop()
-            if question and not question.answer.done():
-                return question
-            if question:
-                continue
-            with contextlib.suppress(TimeoutError):
+            while question := self.queue.pop():
+                if not question.answer.done():
+                    return question
+            try:
                 async with asyncio.timeout_at(until):
                     await self.wake.wait()
-                continue
-            return Question(HUB, STATUS, loop.create_future())
+            except TimeoutError:
+                return Question(HUB, STATUS, loop.create_future())
 
     def _come_up(self) -> None:
         """The console answers."""

@@ -2,15 +2,13 @@
 from dataclasses import dataclass, field
 
 from temzaar.console import SlotKey
-from temzaar.hub.counts import Histogram
+from temzaar.hub.counts import MINUTES, Histogram
 from temzaar.hub.moment import Moment
 from temzaar.hub.samples import Samples
 from temzaar.hub.seencalls import CallLog
 from temzaar.hub.termwatch import TermWatch
 from temzaar.picture import Ages, Picture, RadioList
 
-# Seconds: a request may wait for as long as the longest call lasts, some minutes.
-WAIT_BUCKETS = (1.0, 2.0, 5.0, 10.0, 20.0, 30.0, 60.0, 120.0, 180.0, 300.0)
 # The states of a slot that can have no call.
 NO_TRAFFIC = ("control", "down")
 # Seconds after which a burst that waits says that a carrier does not poll: the control slot's queue of 64 PDUs takes 64 frames of 60 ms.
@@ -41,7 +39,7 @@ class SiteModel:
     radios_changed: Moment | None = None
     calls: CallLog = field(default_factory=CallLog)
     samples: Samples = field(default_factory=Samples)
-    waits: Histogram = field(default_factory=lambda: Histogram("dmr_site_queue_wait_seconds", "How long requests waited for a slot until they left the queue, as the hub saw them.", WAIT_BUCKETS))
+    waits: Histogram = field(default_factory=lambda: Histogram("dmr_site_queue_wait_seconds", "How long requests waited for a slot until they left the queue, as the hub saw them.", MINUTES))
 
     @property
     def control(self) -> int | None:

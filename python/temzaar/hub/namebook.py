@@ -1,5 +1,4 @@
 """The names of the site's file of names, which is read again when it changes, and the search in them."""
-import asyncio
 import bisect
 import pathlib
 from array import array
@@ -53,15 +52,6 @@ class NameIndex:
         return found, True
 
 
-@dataclass(frozen=True)
-class Read:
-    """What a look found: the file's state before it was read, what it has, and the index of its names. `fault` is why nothing of it can be used."""
-    state: FileState
-    file: NamesFile
-    index: NameIndex
-    fault: str
-
-
 class NameBook:
     """The names that the hub shows. Of a file that cannot be used nothing is taken: the names that were read before stay."""
 
@@ -78,15 +68,6 @@ class NameBook:
         """Whether the config names a file."""
         return bool(self.keys.file)
 
-    async def run(self) -> None:
-        """Looks until it is cancelled."""
-        try:
-            while True:
-                await self.look()
-                await asyncio.sleep(self.keys.read_seconds)
-        finally:
-            self.worker.close()
-
     async def look(self) -> None:
         """Takes the names of a file that has changed, if one can be used."""
         try:
@@ -99,10 +80,10 @@ class NameBook:
             self._fail(str(fault) or type(fault).__name__)
         else:
             if found:
-                self._take(found)
+                self._take(*found)
 
-    def _read(self) -> Read | None:
-        """What the file has; None if it has not changed. It runs in a thread, and changes nothing."""
+    def _read(self) -> tuple[FileState, NamesFile, NameIndex] | None:
+        """The file's state before it was read, what it has, and the index of its names; None if it has not changed. It runs in a thread, and changes nothing."""
         state = file_state(self.keys.file)
         if state is not None and state == self.known:
             return None
@@ -110,18 +91,18 @@ class NameBook:
             # it would wait for somebody who writes
             raise NamesFault(f"{self.keys.file}: a pipe, and not a file")
         file = scan_names(self.keys.file)
-        return Read(state, file, NameIndex(file.names), file.fault())
+        return state, file, NameIndex(file.names)
 
-    def _take(self, found: Read) -> None:
+    def _take(self, state: FileState, file: NamesFile, index: NameIndex) -> None:
         """Takes what was read."""
-        self.known = found.state
-        if found.fault:
-            self._fail(found.fault)
+        self.known = state
+        if fault := file.fault():
+            self._fail(fault)
             return
-        self.names, self.index, self.fault = found.file.names, found.index, ""
-        self.version, self.bad_count = self.version + 1, found.file.bad_count
+        self.names, self.index, self.fault = file.names, index, ""
+        self.version, self.bad_count = self.version + 1, file.bad_count
         note(f"names: {self.keys.file}: {len(self.names)} {'name' if len(self.names) == 1 else 'names'}")
-        for line in found.file.notes():
+        for line in file.notes():
             warn(f"names: {line}")
 
     def _fail(self, fault: str) -> None:

@@ -1,5 +1,4 @@
 """What is new in the controller's file of records since a term: sums, counts and the newest calls. It is read in a thread of its own, into memory of a fixed size."""
-import bisect
 import struct
 import time
 from collections import Counter
@@ -8,9 +7,9 @@ from dataclasses import dataclass, field
 
 from temzaar.console import Parties
 from temzaar.faults import FileState, file_state
+from temzaar.hub.counts import MINUTES, Histogram
 from temzaar.hub.moment import Moment
-from temzaar.hub.recordsamples import Happened
-from temzaar.hub.samples import SPANS
+from temzaar.hub.samples import SPANS, Happened
 from temzaar.hub.seencalls import MOST_ENDED, SeenCall, pack_call
 from temzaar.hub.slotuse import Used, slots_used
 from temzaar.picture import LAST_RADIO
@@ -20,8 +19,6 @@ from temzaar.siteevents import SiteEvent, reason_text, recorded_events
 
 # Seconds for which a look at the file waits while the controller writes; then the hub tries again at the next look.
 LOCK_SECONDS = 0.5
-# Seconds: a call lasts from the hang time, some seconds, up to the maximum of the site file, some minutes.
-DURATION_BUCKETS = (1.0, 2.0, 5.0, 10.0, 20.0, 30.0, 60.0, 120.0, 180.0, 300.0)
 # How old an event is at most that is read, in seconds.
 EVENT_SECONDS = 86_400
 # The columns of `terms` that are summed.
@@ -30,16 +27,9 @@ SUMMED = ("registrations", "heard", "noise", "polls", "grants", "late_entries")
 Signature = tuple[FileState, FileState]
 
 
-@dataclass
-class Durations:
-    """How many calls were at most as long as each bound, and how long they were together, in seconds."""
-    counts: list[int] = field(default_factory=lambda: [0] * (len(DURATION_BUCKETS) + 1))
-    sum: float = 0.0
-
-    def add(self, seconds: float) -> None:
-        """Counts a call."""
-        self.counts[bisect.bisect_left(DURATION_BUCKETS, seconds)] += 1
-        self.sum += seconds
+def call_durations() -> Histogram:
+    """How long calls lasted; as yet no call has."""
+    return Histogram("dmr_site_call_duration_seconds", "How long calls lasted.", MINUTES)
 
 
 @dataclass
@@ -52,7 +42,7 @@ class NewRecords:
     terms: int = 0
     sums: dict[str, int] = field(default_factory=lambda: dict.fromkeys(SUMMED, 0))
     calls: Counter[tuple[str, str]] = field(default_factory=Counter)
-    durations: Durations = field(default_factory=Durations)
+    durations: Histogram = field(default_factory=call_durations)
     refusals: Counter[str] = field(default_factory=Counter)
     newest: list[bytes] = field(default_factory=list)
     happened: dict[str, list[Happened]] = field(default_factory=dict)
@@ -109,7 +99,7 @@ def count_calls(rows: Iterable[tuple[int, int, str, float]], new: NewRecords) ->
         # SQLite has more than 2^63 ms as a number with decimals
         require(isinstance(cause, str) and isinstance(milliseconds, int | float), f"calls, row {number}", "a cause or a time is missing")
         new.calls["group" if is_group else "radio", cause] += 1
-        new.durations.add(max(0, milliseconds) / 1000)
+        new.durations.observe(max(0, milliseconds) / 1000)
 
 
 def happened_since(records: Records, since: int, span: str) -> list[Happened]:

@@ -1,10 +1,12 @@
-"""What the hub writes to standard error, and what it reports to systemd."""
+"""What the hub writes to standard error, a limit of what is written about each user, and what the hub reports to systemd."""
+import asyncio
 import contextlib
 import os
 import socket
 import sys
+from collections import Counter
+from collections.abc import Callable
 
-from temzaar.hub.quota import Quota
 from temzaar.printable import printable
 
 # How many notes of a kind about one user are written in NOTES_SECONDS; of the others, their number.
@@ -32,6 +34,34 @@ def note(text: str, level: str = "INFO") -> None:
 def warn(text: str) -> None:
     """Writes a note about something that an operator has to look at."""
     note(text, "WARN")
+
+
+class Quota:
+    """`most` of a kind in `seconds` from the first one on."""
+
+    def __init__(self, most: int, seconds: float) -> None:
+        self.most, self.seconds = most, seconds
+        # how many of each kind came since the first one, and what reports how many were too many
+        self.counts, self.reports = Counter[str](), dict[str, Callable[[int], None]]()
+
+    def take(self, kind: str, report: Callable[[int], None]) -> bool:
+        """Whether one more is within the limit. If not, `report` is called with the number of those that were not, when the time is over."""
+        if kind not in self.counts:
+            asyncio.get_running_loop().call_later(self.seconds, self._end, kind)
+        self.counts[kind] += 1
+        self.reports[kind] = report
+        return self.counts[kind] <= self.most
+
+    def _end(self, kind: str) -> None:
+        """The time of a kind is over."""
+        too_many, report = self.counts.pop(kind, 0) - self.most, self.reports.pop(kind, None)
+        if report and too_many > 0:
+            report(too_many)
+
+    def end(self) -> None:
+        """The time of all kinds is over."""
+        for kind in list(self.counts):
+            self._end(kind)
 
 
 class UserNotes:

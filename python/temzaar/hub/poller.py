@@ -66,14 +66,12 @@ class Poller:
         if self.connection != self.link.connection:
             self.connection = self.link.connection
             self.model.begin()
-        picture = await self._ask_all(ask_picture())
-        self.model.take_picture(picture, Moment.now())
+        self.model.take_picture(await self._ask_all(ask_picture()), Moment.now())
         self.on_picture()
 
     async def _poll_radios(self) -> None:
         """Lists the registered radios."""
-        radios = await self._ask_all(ask_radios(MOST_RADIOS))
-        self.model.take_radios(radios, Moment.now())
+        self.model.take_radios(await self._ask_all(ask_radios(MOST_RADIOS)), Moment.now())
 
     async def _ask_all(self, questions: Generator[str, list[str], Answer]) -> Answer:
         """Asks question after question, and what they amount to. NoAnswer, ConsoleFault: one of them failed."""

@@ -1,25 +1,30 @@
-"""The counters of the controller's records, and the calls that are recorded. All of it grows by what a look at the file finds new."""
+"""The counters of the controller's records, the calls that are recorded, and the times that are not. All of it grows by what a look at the file finds new."""
+import time
 from collections.abc import Iterator
 from dataclasses import dataclass, field
 from itertools import islice
 
 from temzaar.console import Parties, SlotKey
-from temzaar.hub.counts import Histogram, Series
-from temzaar.hub.newrecords import DURATION_BUCKETS, NewRecords
+from temzaar.hub.counts import Counts, Series
+from temzaar.hub.newrecords import NewRecords, call_durations
+from temzaar.hub.samples import SPANS
 from temzaar.hub.seencalls import MOST_ENDED, CallFilter, CallLog, CallRing, SeenCall
+from temzaar.recordgaps import Gap, gaps_within
 from temzaar.records import CAUSES
 
 # How many of the last recorded calls the seen ones are compared with, and how many seen ones are left out as recorded. Both are far more than there
 # are, unless the clock was set back: then all that was seen before has ended later than the last recorded term.
 MOST_COMPARED, MOST_LEFT_OUT = 1000, 200
+# How many gaps are kept, and of how many seconds.
+MOST_GAPS, LONGEST_SECONDS = 1000, max(step * count for step, count in SPANS.values())
 
 
-class RecordCounts:
+class RecordCounts(Counts):
     """What the hub counts of the records. A counter begins at the rows that the file has when the hub starts."""
 
     def __init__(self) -> None:
         self.calls = Series("dmr_site_calls_total", "Calls that ended, by who was called and why they ended.")
-        self.durations = Histogram("dmr_site_call_duration_seconds", "How long calls lasted.", DURATION_BUCKETS)
+        self.durations = call_durations()
         self.registrations = Series("dmr_site_registrations_total", "Radios that were registered.")
         self.refusals = Series("dmr_site_refusals_total", "Requests that were refused, by the reason.")
         self.terms = Series("dmr_site_terms_total", "Terms that were recorded.")
@@ -32,10 +37,12 @@ class RecordCounts:
         self.recorded_until = Series("dmr_site_records_timestamp_seconds", "When the last recorded term ended, in seconds since 1970.")
         self.reads = Series("dmr_hub_records_reads_total", "Looks at the file of records that found something new.")
         self.faults = Series("dmr_hub_records_faults_total", "Looks at the file of records that failed.")
+        self.gaps = Series("dmr_site_record_gaps_total", "Times of which there are no records: a restart of the controller, or terms that were not written.")
+        self.unrecorded = Series("dmr_site_unrecorded_seconds_total", "How long these times were together.")
         for kind in ("group", "radio"):
             for cause in CAUSES:
                 self.calls.add(0, kind=kind, cause=cause)
-        for series in (self.registrations, self.terms, self.polls, self.bursts, self.noise, self.grants, self.late_entries, self.reads, self.faults):
+        for series in (self.registrations, self.terms, self.polls, self.bursts, self.noise, self.grants, self.late_entries, self.reads, self.faults, self.gaps, self.unrecorded):
             series.add(0)
 
     def take(self, new: NewRecords) -> None:
@@ -47,23 +54,24 @@ class RecordCounts:
             series.add(new.sums[name])
         for (kind, cause), count in new.calls.items():
             self.calls.add(count, kind=kind, cause=cause)
-        self.durations.add(new.durations.counts, new.durations.sum)
+        self.durations.add(new.durations)
         for reason, count in new.refusals.items():
             self.refusals.add(count, reason=reason)
+        self.gaps.add(len(new.gaps))
+        self.unrecorded.add(sum(it.seconds for it in new.gaps))
         if new.last:
             self.longest_queue.set(new.last.counts["most_lines"])
             self.recorded_until.set(new.last.ended_ms / 1000)
 
-    def all_series(self) -> list[Series | Histogram]:
-        """Everything that is counted, in the order in which it is shown."""
-        return [it for it in vars(self).values() if isinstance(it, Series | Histogram)]
-
 
 @dataclass
 class RecordedLog:
-    """The last calls of the records, in memory of a fixed size. `until` is when the last recorded term ended, in seconds since 1970; None before the first."""
+    """The last calls of the records and the times that they do not have, in memory of a fixed size. `begins_ms` is when the first recorded term began, and `until` when
+    the last one ended, in seconds since 1970; None before it. `gaps` are the newest ones of the longest span of the charts."""
     ended: CallRing = field(default_factory=lambda: CallRing(MOST_ENDED))
+    begins_ms: int | None = None
     until: float | None = None
+    gaps: list[Gap] = field(default_factory=list)
     # when the last recorded calls ended, by slot and parties, and of which state of this log that is
     ends: dict[tuple[SlotKey, Parties], list[float]] = field(default_factory=dict)
     ends_of: tuple[int, float | None, float] | None = None
@@ -74,6 +82,10 @@ class RecordedLog:
             self.ended.append_record(record)
         if new.last:
             self.until = new.last.ended_ms / 1000
+        if self.begins_ms is None:
+            self.begins_ms = new.begins_ms
+        oldest_ms = int(1000 * (time.time() - LONGEST_SECONDS))
+        self.gaps = gaps_within([*self.gaps, *new.gaps], oldest_ms, None)[-MOST_GAPS:]
 
     def has(self, call: SeenCall, slack: float) -> bool:
         """Whether a call that was seen is one of the last recorded ones. Its end was seen at most `slack` seconds late."""

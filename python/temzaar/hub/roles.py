@@ -76,18 +76,9 @@ def find_numbers(key: str, names: Sequence[str | int], find: Callable[[str], int
 
 def find_rules(keys: RoleKeys) -> Rules:
     """The rules of the config. ConfigFault: a user or a group does not exist."""
-    return Rules(find_numbers("full_users", keys.full_users, find_user), find_numbers("full_groups", keys.full_groups, find_group),
-                 find_numbers("read_users", keys.read_users, find_user), find_numbers("read_groups", keys.read_groups, find_group), Role[keys.others.upper()])
-
-
-def find_user(name: str) -> int:
-    """The number of a user. KeyError: there is none of this name."""
-    return pwd.getpwnam(name).pw_uid
-
-
-def find_group(name: str) -> int:
-    """The number of a group. KeyError: there is none of this name."""
-    return grp.getgrnam(name).gr_gid
+    finders: dict[str, Callable[[str], int]] = {"users": lambda name: pwd.getpwnam(name).pw_uid, "groups": lambda name: grp.getgrnam(name).gr_gid}
+    found = {key: find_numbers(key, getattr(keys, key), finders[key.partition("_")[2]]) for key in ("full_users", "full_groups", "read_users", "read_groups")}
+    return Rules(**found, others=Role[keys.others.upper()])
 
 
 def user_name(uid: int) -> str:

@@ -1,15 +1,24 @@
-"""Figures of the site over the last hour and the last day: samples with the least, the mean and the greatest value, in memory of a fixed size."""
+"""The last hour and the last day, in memory of a fixed size.
+
+Of figures of the site there are samples with the least, the mean and the greatest value. By the controller's records there are counts of calls that ended, of
+refused requests and of noise.
+"""
 import math
 from array import array
-from collections.abc import Iterator, Mapping, Sequence
+from collections.abc import Iterable, Iterator, Mapping, Sequence
 from dataclasses import dataclass
 
 from temzaar.hub.moment import Moment
+from temzaar.records import CAUSES
 
 # The figures of which there are samples.
 FIGURES = ("slots_in_use", "slots_up", "queue_length", "longest_wait_seconds", "registered_radios", "carriers_up")
 # The spans by their names: the seconds of a sample, and how many samples are kept.
 SPANS = {"hour": (5, 720), "day": (120, 720)}
+# What is counted: calls by the cause of their end, refused requests, and bursts in which no PDU could be read.
+KINDS = (*CAUSES, "refused", "noise")
+# How often one of these happened in a sample: what, the sample's number, and how often.
+Happened = tuple[str, int, int]
 
 
 @dataclass(frozen=True)
@@ -93,11 +102,6 @@ class Span:
             else:
                 yield Summary(track.least[at], track.total[at] / max(1, self.pictures[at]), track.greatest[at])
 
-    def octets(self) -> int:
-        """How much memory the samples take."""
-        values = sum(len(it) * it.itemsize for track in self.tracks.values() for it in (track.least, track.total, track.greatest))
-        return values + sum(len(it) * it.itemsize for it in (self.numbers, self.pictures))
-
 
 class Samples:
     """The samples of all spans."""
@@ -115,3 +119,45 @@ class Samples:
         for span, found in used.items():
             for number, summary in found:
                 self.spans[span].refill(name, number, summary, now)
+
+
+class CountSpan:
+    """The counts of a span, in samples of `step` seconds. A sample's number is its time since 1970 by its step."""
+
+    def __init__(self, step: int, count: int) -> None:
+        self.step, self.count = step, count
+        # the number of the sample at each place, and its counts
+        self.numbers = array("q", [-1]) * count
+        self.counts = {kind: array("q", [0]) * count for kind in KINDS}
+
+    def oldest(self, now: float) -> int:
+        """The number of the oldest sample of which there is a count."""
+        return int(now // self.step) - self.count + 1
+
+    def add(self, happened: Iterable[Happened], now: float) -> None:
+        """Adds counts. What is not in the span that ends now is left out, and so is a cause that is not known. Samples later than now are
+        forgotten: the clock was set back since they were counted."""
+        newest = int(now // self.step)
+        for at, number in enumerate(self.numbers):
+            if number > newest:
+                self.numbers[at] = -1
+        for kind, number, times in happened:
+            if not newest - self.count < number <= newest:
+                continue
+            at = number % self.count
+            if number != self.numbers[at]:
+                self.numbers[at] = number
+                for counts in self.counts.values():
+                    counts[at] = 0
+            if kind in self.counts:
+                self.counts[kind][at] += times
+
+    def of(self, kind: str, now: float) -> list[int]:
+        """The counts of all samples up to now, oldest first."""
+        oldest, counts = self.oldest(now), self.counts[kind]
+        return [counts[number % self.count] if self.numbers[number % self.count] == number else 0 for number in range(oldest, oldest + self.count)]
+
+
+def count_spans() -> dict[str, CountSpan]:
+    """The counts of all spans, by their names."""
+    return {name: CountSpan(step, count) for name, (step, count) in SPANS.items()}

@@ -41,15 +41,11 @@ class SeenCall:
         return self.ended.steady - self.began.steady if self.ended else None
 
 
-def cause_number(cause: str | None) -> int:
-    """The number of a cause in the flags of a record."""
-    return CAUSE_NAMES.index(cause) if cause in CAUSE_NAMES else len(CAUSE_NAMES) - 1
-
-
 def pack_call(call: SeenCall) -> bytes:
     """The record of a call that has ended."""
     assert call.ended
-    flags = IS_GROUP * (call.parties.kind == "group") | IS_OLDER * call.is_older | IS_END_SEEN * call.is_end_seen | cause_number(call.cause) << CAUSE_BIT
+    cause = CAUSE_NAMES.index(call.cause if call.cause in CAUSE_NAMES else CAUSE_NAMES[-1])
+    flags = IS_GROUP * (call.parties.kind == "group") | IS_OLDER * call.is_older | IS_END_SEEN * call.is_end_seen | cause << CAUSE_BIT
     return RECORD.pack(call.number, *call.slot, call.parties.target, call.parties.source, flags, call.began.wall, call.began.steady, call.ended.wall, call.ended.steady)
 
 

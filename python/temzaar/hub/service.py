@@ -13,7 +13,7 @@ from temzaar.hub.config import Config
 from temzaar.hub.counts import HubCounts
 from temzaar.hub.eventfeed import EventFeed
 from temzaar.hub.eventlog import EventLog
-from temzaar.hub.eventwatch import EventWatch
+from temzaar.hub.eventwatch import LOOK_SECONDS, EventWatch
 from temzaar.hub.httpread import Request
 from temzaar.hub.lineport import STOP_SECONDS, LinePort
 from temzaar.hub.link import ConsoleLink
@@ -27,6 +27,7 @@ from temzaar.hub.poller import Poller
 from temzaar.hub.recordreader import RecordReader
 from temzaar.hub.roles import Rules
 from temzaar.hub.session import Desk
+from temzaar.hub.turn import repeat
 from temzaar.hub.views import Views
 from temzaar.hub.web import JSON, METRICS, TEXT, Response, View, WebPort
 from temzaar.sitefile import ConsolePlace, SiteFault, read_console_place
@@ -119,15 +120,15 @@ class Hub:
             raise AuditFault(f"audit log: {fault}") from fault
         await self._restore_events()
         tasks: list[asyncio.Task[None]] = []
+        files = [it for it in (self.records, self.book) if it and it.keys.file]
         waiting = asyncio.create_task(self.stopping.wait())
         try:
-            await self._open_ports()
-            tasks += [asyncio.create_task(self.link.run()), asyncio.create_task(self.poller.run()), asyncio.create_task(self.watch.run())]
-            if self.records:
-                tasks.append(asyncio.create_task(self.records.run()))
-            if self.book.is_used:
-                tasks.append(asyncio.create_task(self.book.run()))
-            tasks.append(asyncio.create_task(feed_watchdog()))
+            await self.line_port.open()
+            await self.web_port.open()
+            works = [self.link.run(), self.poller.run(), repeat(self._look, LOOK_SECONDS), *(repeat(it.look, it.keys.read_seconds) for it in files)]
+            if seconds := watchdog_seconds():
+                works.append(feed_watchdog(seconds / 3))
+            tasks += map(asyncio.create_task, works)
             notify_systemd("READY=1")
             await asyncio.wait({waiting, *tasks}, return_when=asyncio.FIRST_COMPLETED)
             for task in tasks:
@@ -136,10 +137,13 @@ class Hub:
         finally:
             self.stop()
             notify_systemd("STOPPING=1")
-            await self._close_ports()
+            await self.web_port.close()
+            await self.line_port.close()
             for task in (*tasks, waiting):
                 task.cancel()
             await asyncio.wait({*tasks, waiting}, timeout=STOP_SECONDS)
+            for it in files:
+                it.worker.close()
             await self.desk.end()
             self.audit.close()
 
@@ -152,24 +156,12 @@ class Hub:
         self.audit.on_record = self.feed.take_audit
         self.watch.begin(self.views.begun)
 
-    async def _open_ports(self) -> None:
-        """Opens the ports. PortFault: one cannot be opened."""
-        await self.line_port.open()
-        await self.web_port.open()
 
-    async def _close_ports(self) -> None:
-        """Closes the ports, and ends the connections."""
-        await self.web_port.close()
-        await self.line_port.close()
-
-
-async def feed_watchdog() -> None:
-    """Reports to systemd that the loop turns, until it is cancelled. If systemd expects no report, it waits."""
-    seconds = watchdog_seconds()
+async def feed_watchdog(seconds: float) -> None:
+    """Reports to systemd again and again that the loop turns, until it is cancelled."""
     while True:
-        await asyncio.sleep(seconds / 3 if seconds else 3600)
-        if seconds:
-            notify_systemd("WATCHDOG=1")
+        await asyncio.sleep(seconds)
+        notify_systemd("WATCHDOG=1")
 
 
 def constant_view(response: Response) -> View:

@@ -1,6 +1,7 @@
 """An operator's connection: its lines, one after another, and their replies."""
 import asyncio
 import contextlib
+import itertools
 import time
 from collections.abc import Callable, Coroutine, Iterable, Iterator
 from dataclasses import dataclass, field
@@ -8,7 +9,7 @@ from typing import Any
 
 from temzaar.console import TOO_LONG, UNKNOWN, are_numbers
 from temzaar.hub.audit import AuditFault, AuditLog
-from temzaar.hub.config import LinePortKeys, NamesKeys
+from temzaar.hub.config import LinePortKeys
 from temzaar.hub.counts import HubCounts
 from temzaar.hub.eventfeed import ACKNOWLEDGED, record_of_event
 from temzaar.hub.eventlog import Acknowledgement, EventLog, KeptEvent
@@ -17,9 +18,8 @@ from temzaar.hub.lines import ACKNOWLEDGE, ALL, NAME, NO_ANSWER, WHO_SITE, Line,
 from temzaar.hub.link import ConsoleLink, NoAnswer
 from temzaar.hub.moment import utc_text
 from temzaar.hub.namebook import NameBook
-from temzaar.hub.notes import UserNotes
+from temzaar.hub.notes import Quota, UserNotes
 from temzaar.hub.places import Place
-from temzaar.hub.quota import Quota
 from temzaar.hub.roles import Peer, Role
 from temzaar.hub.turn import LongWork, Paces
 from temzaar.names import KINDS, Kind
@@ -66,17 +66,17 @@ class Desk:
     keys: LinePortKeys
     counts: HubCounts
     on_change: Callable[[], None]
-    name: str = ""
-    book: NameBook = field(default_factory=lambda: NameBook(NamesKeys()))
-    events: EventLog = field(default_factory=EventLog)
-    find_control: Callable[[], int | None] = lambda: None
+    name: str
+    book: NameBook
+    events: EventLog
+    find_control: Callable[[], int | None]
     sessions: dict[int, "Session"] = field(default_factory=dict)
     lines: Paces = field(default_factory=lambda: Paces(LINES_PER_SECOND, LINES_AT_ONCE))
     refusals: Paces = field(default_factory=lambda: Paces(REFUSALS_PER_SECOND))
     own_work: LongWork = field(default_factory=LongWork)
     recorded_refusals: Quota = field(default_factory=lambda: Quota(MOST_REFUSALS, REFUSALS_SECONDS))
     notes: UserNotes = field(default_factory=UserNotes)
-    changes: int = 0
+    changes: Iterator[int] = field(default_factory=lambda: itertools.count(1))
     tasks: set[asyncio.Future[None]] = field(default_factory=set)
 
     def keep_task(self, work: Coroutine[Any, Any, None]) -> None:
@@ -97,11 +97,6 @@ class Desk:
         self.notes.quota.end()
         if self.tasks:
             await asyncio.wait(set(self.tasks))
-
-    def next_change(self) -> str:
-        """A name for a command, which its records share: when the hub asks, and a number."""
-        self.changes += 1
-        return f"{int(time.time())}-{self.changes}"
 
 
 @dataclass
@@ -174,10 +169,11 @@ class Session:
         self.desk.counts.lines.add(kind=line.kind.value)
         if line.kind == LineKind.QUESTION:
             return await self._ask(line)
-        if line.kind == LineKind.CHANGE:
-            return await self._change(line)
-        if line.name == ACKNOWLEDGE:
-            return await self._acknowledge(line)
+        if line.kind == LineKind.CHANGE or line.name == ACKNOWLEDGE:
+            record = self._record_of(line)
+            if self.peer.role < Role.FULL:
+                return await self._refuse(line, record)
+            return await (self._acknowledge(line, record) if line.name == ACKNOWLEDGE else self._change(line, record))
         if line.kind == LineKind.OWN:
             return await self.desk.own_work.do(lambda: self._answer_own(line))
         return UNKNOWN
@@ -194,11 +190,8 @@ class Session:
         """Those who share a turn: the connections of one user."""
         return f"user {self.peer.key}"
 
-    async def _change(self, line: Line) -> bytes:
-        """Does a command that changes the site, if the role allows it and the audit log has it."""
-        record = {**self._record_of_peer(), "line": line.text}
-        if self.peer.role < Role.FULL:
-            return await self._refuse(line, record)
+    async def _change(self, line: Line, record: dict[str, Any]) -> bytes:
+        """Does a command that changes the site, if the audit log has it."""
         try:
             await self._record(line, record, "asked")
         except AuditFault:
@@ -209,10 +202,10 @@ class Session:
             await self._record(line, record, outcome, reply)
         return reply
 
-    def _record_of_peer(self) -> dict[str, Any]:
-        """What all records of a command have."""
-        return {"id": self.desk.next_change(), "user": self.peer.user, "uid": self.peer.uid, "pid": self.peer.pid,
-                "role": self.peer.role.name.lower(), "connection": self.number}
+    def _record_of(self, line: Line | None) -> dict[str, Any]:
+        """What all records of a line have; None: they are of many lines. The name that they share is when the hub asks, and a number."""
+        return {"id": f"{int(time.time())}-{next(self.desk.changes)}", "user": self.peer.user, "uid": self.peer.uid, "pid": self.peer.pid,
+                "role": self.peer.role.name.lower(), "connection": self.number, "line": line.text if line else None}
 
     async def _refuse(self, line: Line, record: dict[str, Any]) -> bytes:
         """Refuses a command that needs the role full. The audit log has the first ones of an hour, and then the number of the others."""
@@ -227,8 +220,7 @@ class Session:
 
     def _record_refusals(self, count: int) -> None:
         """Records how many more commands of the user were refused."""
-        record = {**self._record_of_peer(), "line": None, "count": count}
-        self.desk.keep_task(self._record(None, record, "refusals"))
+        self.desk.keep_task(self._record(None, {**self._record_of(None), "count": count}, "refusals"))
 
     async def _do(self, line: Line) -> tuple[str, bytes]:
         """Passes a command on. How it ended, and the reply."""
@@ -277,11 +269,8 @@ class Session:
             rows = self._who_rows() if line.name == "who" else (f"help {command}: {about}" for command, about in HELP)
         return list_reply(rows)
 
-    async def _acknowledge(self, line: Line) -> bytes:
-        """Acknowledges events, if the role allows it and the audit log has it. The reply has the events."""
-        record = {**self._record_of_peer(), "line": line.text}
-        if self.peer.role < Role.FULL:
-            return await self._refuse(line, record)
+    async def _acknowledge(self, line: Line, record: dict[str, Any]) -> bytes:
+        """Acknowledges events, if the audit log has it. The reply has the events."""
         found, log = self._find_events(line), self.desk.events
         if isinstance(found, bytes):
             return found

@@ -1,6 +1,6 @@
 """What keeps the hub's one loop turning: long work does one piece in a turn and has a part of the time, and what users ask comes at a pace."""
 import asyncio
-from collections.abc import Callable
+from collections.abc import Awaitable, Callable
 from typing import TypeVar
 
 Result = TypeVar("Result")
@@ -8,6 +8,14 @@ Result = TypeVar("Result")
 SHARE, AHEAD_SECONDS = 0.25, 0.05
 # How many users have a pacer, before those that rest are forgotten.
 MOST_PACERS = 1000
+
+
+async def repeat(work: Callable[[], Awaitable[None] | None], seconds: float) -> None:
+    """Does work again and again, with a pause of some seconds after each time, until it is cancelled."""
+    while True:
+        if (rest := work()) is not None:
+            await rest
+        await asyncio.sleep(seconds)
 
 
 class Pacer:

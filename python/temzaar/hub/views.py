@@ -6,7 +6,7 @@ from dataclasses import dataclass, field
 from typing import Any
 
 from temzaar.console import Parties, SlotKey
-from temzaar.hub.config import Config, NamesKeys
+from temzaar.hub.config import Config
 from temzaar.hub.counts import Histogram, HubCounts, Series
 from temzaar.hub.eventlog import EventLog
 from temzaar.hub.lines import AWAY
@@ -35,9 +35,9 @@ class Views:
     counts: HubCounts
     sessions: Sized
     begun: Moment
-    records: RecordReader | None = None
-    book: NameBook = field(default_factory=lambda: NameBook(NamesKeys()))
-    events: EventLog = field(default_factory=EventLog)
+    records: RecordReader | None
+    book: NameBook
+    events: EventLog
     version: str = field(default_factory=read_version)
 
     def __post_init__(self) -> None:
@@ -149,9 +149,7 @@ class Views:
 
     def _site_series(self) -> Iterator[Series]:
         """Gauges of the site. While the controller is away there are only its name and the one that says so."""
-        name = Series("dmr_site_info", "The site's name, as a label; the value is always 1.")
-        name.set(1, site=self.config.controller.site_name)
-        yield name
+        yield gauge("dmr_site_info", "The site's name, as a label; the value is always 1.", 1, site=self.config.controller.site_name)
         yield gauge("dmr_site_controller_up", "Whether the controller answers.", int(self.link.state.is_up))
         picture, seen = self.model.picture, self.model.seen
         if not self.link.state.is_up or picture is None or seen is None:
@@ -163,9 +161,8 @@ class Views:
             up.set(int(carrier.is_up), carrier=str(number))
         yield up
         if picture.control is not None:
-            control = Series("dmr_site_control_up", "Whether the carrier with the control channel is up: without it radios have no service.")
-            control.set(int(picture.is_on_air), carrier=str(picture.control))
-            yield control
+            about = "Whether the carrier with the control channel is up: without it radios have no service."
+            yield gauge("dmr_site_control_up", about, int(picture.is_on_air), carrier=str(picture.control))
         yield gauge("dmr_site_longest_unsent_seconds", "How long the hub has seen the slot that has waited longest for a burst to be sent; 0 if none waits.", self.model.longest_unsent(now))
         slots = Series("dmr_site_slots", "Slots, by their state.")
         for state in SLOT_STATES:
@@ -184,30 +181,20 @@ class Views:
         if self.records is None:
             return
         yield from self.records.counts.all_series()
-        yield from self.records.gaps.all_series()
         yield gauge("dmr_site_records_overdue", "Whether a term should have been recorded that was not.", int(self._is_overdue()))
         if self.records.version is not None:
-            info = Series("dmr_site_controller_info", "The controller's version, as a label; the value is always 1.")
-            info.set(1, version=self.records.version)
-            yield info
-        lacks = Series("dmr_site_missing_polls", "How many carriers' polls each of the last two recorded terms lacks, of those of the carriers that were up.")
-        missing = self.model.watch.missing_polls()
-        if missing is not None:
-            lacks.set(missing)
-        yield lacks
+            yield gauge("dmr_site_controller_info", "The controller's version, as a label; the value is always 1.", 1, version=self.records.version)
+        about = "How many carriers' polls each of the last two recorded terms lacks, of those of the carriers that were up."
+        yield gauge("dmr_site_missing_polls", about, self.model.watch.missing_polls())
 
     def _process_series(self) -> Iterator[Series]:
         """Gauges of the hub's process and connections."""
         process = Process(os.getpid())
-        info = Series("dmr_hub_info", "The hub's version, as a label; the value is always 1.")
-        info.set(1, version=self.version)
-        yield info
+        yield gauge("dmr_hub_info", "The hub's version, as a label; the value is always 1.", 1, version=self.version)
         yield gauge("dmr_hub_queued_questions", "Questions that wait for their turn.", len(self.link.queue))
         yield gauge("dmr_hub_line_connections", "Operators' connections that are served.", len(self.sessions))
         yield gauge("process_start_time_seconds", "When the hub started, in seconds since 1970.", self.begun.wall)
-        cpu = Series("process_cpu_seconds_total", "Processor time that the hub has used.")
-        cpu.add(process.seconds())
-        yield cpu
+        yield gauge("process_cpu_seconds_total", "Processor time that the hub has used.", process.seconds())
         yield gauge("process_resident_memory_bytes", "Memory that the hub holds.", process.memory() * 1024)
         yield gauge("process_open_fds", "File descriptors that the hub has open.", process.descriptors())
 
@@ -264,10 +251,11 @@ def names_of_radios(radios: Iterable[int], names: Names) -> dict[int, str]:
     return {radio: name for radio in radios if (name := names.name_of(Kind.RADIO, radio))}
 
 
-def gauge(name: str, about: str, value: float) -> Series:
-    """A gauge without labels."""
+def gauge(name: str, about: str, value: float | None, **labels: str) -> Series:
+    """A gauge, or a counter whose count is kept elsewhere, with one value; without one if that is not known."""
     series = Series(name, about)
-    series.set(value)
+    if value is not None:
+        series.set(value, **labels)
     return series
 
 

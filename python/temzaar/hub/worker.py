@@ -1,11 +1,11 @@
 """A thread for work that may hang: that of a disk, or of a directory service."""
 import asyncio
-import contextlib
 import queue
 import threading
 import time
 from collections.abc import Callable
-from typing import Any, NamedTuple, TypeVar
+from concurrent.futures import Future
+from typing import Any, TypeVar
 
 from temzaar.faults import ToolFault
 
@@ -16,20 +16,14 @@ class Late(ToolFault):
     """Work has not ended in time. The text says after how long."""
 
 
-class Piece(NamedTuple):
-    """Work, and the future of its result."""
-    work: Callable[[], Any]
-    result: asyncio.Future[Any]
-    loop: asyncio.AbstractEventLoop
-
-
 class Worker:
     """A thread that does one piece of work after another. Nobody waits longer than `seconds` for it: then the piece goes on without
     anybody, and while it does, others fail at once. The end of the process does not wait for it either."""
 
     def __init__(self, name: str, seconds: float) -> None:
         self.name, self.seconds = name, seconds
-        self.pieces: queue.SimpleQueue[Piece | None] = queue.SimpleQueue()
+        # each piece, and the future of its result
+        self.pieces: queue.SimpleQueue[tuple[Callable[[], Any], Future[Any]] | None] = queue.SimpleQueue()
         self.thread: threading.Thread | None = None
         # when the piece that is being done began; None if none is
         self.began: float | None = None
@@ -39,9 +33,9 @@ class Worker:
         began = self.began
         if began is not None and time.monotonic() - began > self.seconds:
             raise self._late()
-        loop = asyncio.get_running_loop()
-        result: asyncio.Future[Result] = loop.create_future()
-        self.pieces.put(Piece(work, result, loop))
+        piece = Future[Result]()
+        result = asyncio.wrap_future(piece)
+        self.pieces.put((work, piece))
         if self.thread is None:
             self.thread = threading.Thread(target=self._run, name=self.name, daemon=True)
             self.thread.start()
@@ -58,31 +52,22 @@ class Worker:
 
     def _run(self) -> None:
         """Does pieces until `close`."""
-        while piece := self.pieces.get():
-            if piece.result.cancelled():
+        while found := self.pieces.get():
+            work, piece = found
+            if not piece.set_running_or_notify_cancel():
                 continue
             self.began = time.monotonic()
             try:
-                answer, fault = piece.work(), None
-            except Exception as caught:  # it is raised by `do`
-                answer, fault = None, caught
-            self.began = None
-            # RuntimeError: the loop has ended
-            with contextlib.suppress(RuntimeError):
-                piece.loop.call_soon_threadsafe(settle, piece.result, answer, fault)
+                answer = work()
+            except Exception as fault:  # it is raised by `do`
+                self.began = None
+                piece.set_exception(fault)
+            else:
+                self.began = None
+                piece.set_result(answer)
 
     def close(self) -> None:
         """Ends the thread, after the piece that is being done."""
         if self.thread is not None:
             self.pieces.put(None)
             self.thread = None
-
-
-def settle(result: asyncio.Future[Any], answer: Any, fault: Exception | None) -> None:
-    """Sets a result, if somebody still waits for it."""
-    if result.done():
-        return
-    if fault is None:
-        result.set_result(answer)
-    else:
-        result.set_exception(fault)

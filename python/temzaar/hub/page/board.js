@@ -243,15 +243,25 @@ function openTyped() {
   }
 }
 
-/** Has one of some buttons pressed, those of an attribute; `choose` takes the value of the one that is clicked. */
-function listenToSwitch(attribute, choose) {
+/** Has one of some buttons pressed, those of an attribute. The value of the one that is clicked is asked for from then on. */
+function listenToSwitch(attribute, ask) {
   const buttons = document.querySelectorAll(`button[data-${attribute}]`);
   for (const button of buttons) {
     button.addEventListener("click", () => {
       buttons.forEach((it) => it.setAttribute("aria-pressed", String(it === button)));
-      choose(button.dataset[attribute]);
+      known[attribute] = button.dataset[attribute];
+      ask();
     });
   }
+}
+
+/** Has the button "Show more" of a list ask for more rows. */
+function listenToMore(name, most, ask) {
+  byId(`${name}-more`).addEventListener("click", () => {
+    known[name] = most;
+    ask();
+    byId(`${name}-title`).focus();
+  });
 }
 
 function listenToControls(askCalls, askEvents, askRadios, askCharts) {
@@ -261,24 +271,10 @@ function listenToControls(askCalls, askEvents, askRadios, askCharts) {
   });
   byId("radio-filter").addEventListener("keydown", (event) => event.key === "Enter" && openTyped());
   byId("radio-open").addEventListener("click", openTyped);
-  byId("calls-more").addEventListener("click", () => {
-    known.calls = MANY_CALLS;
-    askCalls();
-    byId("calls-title").focus();
-  });
-  byId("events-more").addEventListener("click", () => {
-    known.events = MANY_EVENTS;
-    askEvents();
-    byId("events-title").focus();
-  });
-  listenToSwitch("span", (span) => {
-    known.span = span;
-    askCharts();
-  });
-  listenToSwitch("refusals", (refusals) => {
-    known.refusals = refusals;
-    askEvents();
-  });
+  listenToMore("calls", MANY_CALLS, askCalls);
+  listenToMore("events", MANY_EVENTS, askEvents);
+  listenToSwitch("span", askCharts);
+  listenToSwitch("refusals", askEvents);
 }
 
 onParty(openHistory);

@@ -58,6 +58,11 @@ class Chart {
     this.plot.addEventListener("keydown", (event) => this.pressKey(event));
   }
 
+  /** Whether there is something to draw. */
+  get isReady() {
+    return history !== null;
+  }
+
   get values() {
     return history.figures[this.spec.figure];
   }
@@ -111,17 +116,14 @@ class Chart {
     return [...this.gaps(), ...this.grid(), ...this.times(), ...this.bands(), ...this.lines(limits)];
   }
 
-  /** Grey, where there was no picture. */
+  /** The times without a picture, from a place to another. */
+  get unknown() {
+    return pairsOf([0, ...this.runs.flat(), this.count]);
+  }
+
+  /** Grey, where nothing is known. */
   gaps() {
-    const edges = [0, ...this.runs.flat(), this.count];
-    const gaps = [];
-    for (let place = 0; place < edges.length; place += 2) {
-      const [from, to] = [edges[place], edges[place + 1]];
-      if (to > from) {
-        gaps.push(makeSvg("rect", { class: "gap", x: this.x(from), y: TOP, width: this.x(to) - this.x(from), height: HEIGHT - TOP - BOTTOM }));
-      }
-    }
-    return gaps;
+    return this.unknown.map(([from, to]) => makeSvg("rect", { class: "gap", x: this.x(from), y: TOP, width: this.x(to) - this.x(from), height: HEIGHT - TOP - BOTTOM }));
   }
 
   /** The lines of the grid, with their values. */
@@ -195,7 +197,7 @@ class Chart {
 
   /** Moves the cursor to a sample; null takes it away. */
   moveTo(place) {
-    if (!history) {
+    if (!this.isReady) {
       return;
     }
     this.cursor = place === null ? null : Math.min(this.count - 1, Math.max(0, place));
@@ -228,14 +230,14 @@ class Chart {
   }
 
   pointTo(event) {
-    if (history) {
+    if (this.isReady) {
       const box = this.plot.getBoundingClientRect();
       this.moveTo(Math.floor(((event.clientX - box.left - LEFT) / this.innerWidth) * this.count));
     }
   }
 
   pressKey(event) {
-    if (!history) {
+    if (!this.isReady) {
       return;
     }
     const steps = { ArrowLeft: -1, ArrowRight: 1, ArrowDown: -1, ArrowUp: 1, PageDown: -PAGE_STEPS, PageUp: PAGE_STEPS, Home: -this.count, End: this.count };
@@ -256,6 +258,10 @@ class BarChart extends Chart {
     }
   }
 
+  get isReady() {
+    return Boolean(history?.recorded);
+  }
+
   get count() {
     return Math.ceil(history.pictures.length / SAMPLES_A_BAR);
   }
@@ -269,8 +275,8 @@ class BarChart extends Chart {
   }
 
   draw() {
-    this.element.hidden = !history.recorded;
-    if (history.recorded) {
+    this.element.hidden = !this.isReady;
+    if (this.isReady) {
       this.bars = this.spec.parts.map((part) => sums(history.recorded.counts[part.count]));
       this.totals = this.bars[0].map((_, place) => this.bars.reduce((sum, bars) => sum + bars[place], 0));
       super.draw();
@@ -283,15 +289,10 @@ class BarChart extends Chart {
   }
 
   /** The times without records, from a place to another: before the first term, gaps between terms, and after the last term. */
-  get unrecorded() {
+  get unknown() {
     const { from, until, gaps } = history.recorded;
     const edges = [from, ...gaps.flatMap((gap) => [gap.from, gap.to]), until].map(Date.parse);
-    const places = [-Infinity, ...edges, Infinity].map((time) => this.placeOf(time));
-    return places.flatMap((place, index) => (index % 2 === 0 && places[index + 1] > place ? [[place, places[index + 1]]] : []));
-  }
-
-  gaps() {
-    return this.unrecorded.map(([from, to]) => makeSvg("rect", { class: "gap", x: this.x(from), y: TOP, width: this.x(to) - this.x(from), height: HEIGHT - TOP - BOTTOM }));
+    return pairsOf([-Infinity, ...edges, Infinity].map((time) => this.placeOf(time)));
   }
 
   shapes() {
@@ -327,23 +328,11 @@ class BarChart extends Chart {
   }
 
   sampleText(place) {
-    const unknown = this.unrecorded.map(([from, to]) => Math.min(to, place + 1) - Math.max(from, place)).filter((part) => part > 0).reduce((sum, part) => sum + part, 0);
+    const unknown = this.unknown.reduce((sum, [from, to]) => sum + Math.max(0, Math.min(to, place + 1) - Math.max(from, place)), 0);
     if (unknown > 0.99) {
       return "not recorded";
     }
     return `${this.countText(this.bars.map((bars) => bars[place]))}${unknown > 0.01 ? "; a part is not recorded" : ""}`;
-  }
-
-  moveTo(place) {
-    if (history && history.recorded) {
-      super.moveTo(place);
-    }
-  }
-
-  pressKey(event) {
-    if (history && history.recorded) {
-      super.pressKey(event);
-    }
   }
 }
 
@@ -354,6 +343,11 @@ function sums(counts) {
     found.push(counts.slice(place, place + SAMPLES_A_BAR).reduce((sum, count) => sum + count, 0));
   }
   return found;
+}
+
+/** The pairs of a list of places, from the first of each to its second, unless these are the same. */
+function pairsOf(places) {
+  return places.flatMap((from, index) => (index % 2 === 0 && places[index + 1] > from ? [[from, places[index + 1]]] : []));
 }
 
 function isKnown(value) {

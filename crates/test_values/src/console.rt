@@ -46,7 +46,10 @@ fn the_longest_status(rt: HostRuntime) {
         calls: usize::MAX,
         moving: Some(Lpcn::new(4094)),
     };
-    assert_eq!(&rt; print(&greatest).as_str(), "status carriers 18446744073709551615 radios 18446744073709551615 asks 18446744073709551615 lines 18446744073709551615 calls 18446744073709551615 fill move 4094\n");
+    assert_eq!(&rt;
+        print(&greatest).as_str(),
+        "status carriers 18446744073709551615 radios 18446744073709551615 asks 18446744073709551615 lines 18446744073709551615 calls 18446744073709551615 fill move 4094\n"
+    );
 }
 
 #[test]

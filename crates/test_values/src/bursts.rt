@@ -5,66 +5,15 @@ use dmr_bits::Word196;
 use dmr_bptc::encode;
 use dmr_burst::{read, write};
 use dmr_csbk::seal;
-use dmr_pdu::{Address, Kind, Number, Pdu, Reason};
+use dmr_pdu::Pdu;
 use std::process::Abort;
 
-/// The registration request of radio 1001, and its burst: a test vector of the format.
+/// The registration request of radio 1001.
 const REQUEST: [u8; 10] = [0x9F, 0x00, 0x02, 0x0E, 0xFF, 0xFE, 0xC6, 0x00, 0x03, 0xE9];
-
-const REQUEST_BURST: [u8; 25] = [
-    0x0E, 0xB4, 0x9C, 0xDF, 0x34, 0xF2, 0x74, 0x9C, 0xEC, 0xBA, 0x5C, 0xB3, 0xB7, 0xC4, 0x0E, 0x88,
-    0x13, 0x8C, 0x9A, 0x38, 0xF9, 0x62, 0x48, 0xE1, 0x80,
-];
-
-/// The acknowledgement of that request, and its burst.
-const ANSWER_BURST: [u8; 25] = [
-    0x41, 0xC3, 0x02, 0x8A, 0x48, 0xFC, 0x8F, 0x40, 0x3D, 0xC0, 0x6F, 0x00, 0xED, 0xA0, 0xF7, 0x83,
-    0xE4, 0x97, 0x54, 0x2E, 0x40, 0x5C, 0xB8, 0x3C, 0xB0,
-];
-
-fn request() -> Pdu {
-    Pdu::Random {
-        options: Number::new(1),
-        flags: Number::new(0),
-        kind: Kind::REGISTRATION,
-        target: Address::new(0xFFFEC6),
-        source: Address::new(1001),
-    }
-}
-
-fn answer() -> Pdu {
-    Pdu::Ackd {
-        info: Number::new(0),
-        reason: Reason::REG_ACCEPTED,
-        spare: false,
-        target: Address::new(1001),
-        additional: Address::new(0xFFFEC6),
-    }
-}
 
 /// Returns the word of a burst.
 fn word_of(rt: &impl Abort, burst: &[u8; 25]) -> Word196 {
     Word196::from_octets(burst).expect(rt, "a word")
-}
-
-#[test]
-fn bursts_of_the_format(rt: HostRuntime) {
-    for (pdu, burst) in [(request(), REQUEST_BURST), (answer(), ANSWER_BURST)] {
-        expect_same(&rt, "written", write(&pdu).to_octets(), burst);
-        expect_same(&rt, "read", read(&word_of(&rt, &burst)), Some(pdu));
-    }
-}
-
-#[test]
-fn flipped_bits(rt: HostRuntime) {
-    let mut word = write(&answer());
-    for place in [0usize, 181, 152, 123] {
-        word.flip(place);
-        // This place is flipped, and those before it are, too.
-        expect_same(&rt, place, read(&word), Some(answer()));
-    }
-    word.flip(1);
-    expect_same(&rt, "five places", read(&word), None);
 }
 
 #[test]

@@ -41,93 +41,14 @@ fn expect_last(rt: &impl Abort, cutter: &mut Cutter, octets: &[u8], last: Step) 
     }
 }
 
-/// Feeds octets, and checks that each yields `want`.
-fn expect_each(rt: &impl Abort, cutter: &mut Cutter, octets: &[u8], want: Step) {
-    for octet in octets {
-        assert_eq!(rt; cutter.feed_byte(*octet), want, "in {octets:?}");
-    }
-}
-
-/// Returns the cutter of a connection after a HELLO of this version from carrier 1 on channel 1. The site serves
-/// versions up to `greatest`.
-fn greeted(rt: &impl Abort, greatest: Version, version: u8) -> Cutter {
-    let mut cutter = Cutter::new(greatest);
-    let octets = [0x01, 0x04, version, 0x01, 0x00, 0x01];
-    expect_last(rt, &mut cutter, &octets, Step::Frame(hello(version)));
-    cutter
-}
-
-#[test]
-fn hello_in_pieces_and_a_fault(rt: HostRuntime) {
-    let mut cutter = Cutter::new(Version::V1);
-    expect_each(&rt, &mut cutter, &[0x01, 0x04, 0x01], Step::Need);
-    expect_each(&rt, &mut cutter, &[0x00, 0x00], Step::Need);
-    let hello = FrameIn::Hello {
-        version: 1,
-        carrier: 0,
-        lpcn: 7,
-    };
-    expect_each(&rt, &mut cutter, &[0x07], Step::Frame(hello));
-    expect_each(&rt, &mut cutter, &[0x03], Step::Need);
-    // A POLL has no body, so 01 is a wrong length. The cutter does not read the good POLL after it.
-    expect_each(
-        &rt,
-        &mut cutter,
-        &[0x01, 0x03, 0x00],
-        Step::Fault(Cause::BadLength),
-    );
-}
-
 #[test]
 fn a_stream(rt: HostRuntime) {
-    let mut cutter = greeted(&rt, Version::V1, 1);
+    let mut cutter = Cutter::new(Version::V1);
+    let octets = [0x01, 0x04, 0x01, 0x01, 0x00, 0x01];
+    expect_last(&rt, &mut cutter, &octets, Step::Frame(hello(1)));
     let frame = Step::Frame(received(&rt, None));
     expect_last(&rt, &mut cutter, &RECEIVED, frame);
     expect_short_frames(&rt, &mut cutter);
-}
-
-#[test]
-fn a_stream_of_version_2(rt: HostRuntime) {
-    let mut cutter = greeted(&rt, Version::V2, 2);
-    for number in [5, 0, 255, 2] {
-        let mut octets = RECEIVED_NUMBERED;
-        octets[2] = number;
-        let frame = Step::Frame(received(&rt, Some(number)));
-        expect_last(&rt, &mut cutter, &octets, frame);
-    }
-    expect_short_frames(&rt, &mut cutter);
-    // After all these octets the connection still has version 2.
-    let short = Step::Fault(Cause::BadLength);
-    expect_last(&rt, &mut cutter, &[0x02, 0x1A], short);
-}
-
-/// The greatest version that the site serves, the version in a HELLO, the octets after it, and the fault at the last of
-/// them.
-type Misfit = (Version, u8, &'static [u8], Cause);
-
-const MISFITS: [Misfit; 8] = [
-    (Version::V1, 1, &[0x02, 0x1B], Cause::BadLength),
-    (Version::V1, 2, &[0x02, 0x1B], Cause::BadLength),
-    (Version::V2, 0, &[0x02, 0x1B], Cause::BadLength),
-    (Version::V2, 1, &[0x02, 0x1B], Cause::BadLength),
-    (Version::V2, 2, &[0x02, 0x1A], Cause::BadLength),
-    (Version::V2, 2, &[0x02, 0x1B, 0x05, 0x02], Cause::BadSlot),
-    (Version::V2, 2, &[0x04, 0x01, 0x02], Cause::BadSlot),
-    (Version::V2, 3, &[0x02, 0x1B], Cause::BadLength),
-];
-
-#[test]
-fn faults_after_a_hello(rt: HostRuntime) {
-    for (greatest, version, octets, cause) in MISFITS {
-        let mut cutter = greeted(&rt, greatest, version);
-        expect_last(&rt, &mut cutter, octets, Step::Fault(cause));
-    }
-    for pad in [0x01, 0x02, 0x04, 0x08] {
-        let mut octets = RECEIVED_NUMBERED;
-        octets[28] = pad;
-        let mut cutter = greeted(&rt, Version::V2, 2);
-        expect_last(&rt, &mut cutter, &octets, Step::Fault(Cause::BadPad));
-    }
 }
 
 /// Returns the word of that burst.
@@ -172,66 +93,6 @@ fn expect_short_frames(rt: &impl Abort, cutter: &mut Cutter) {
         (&[0x05, 0x00], FrameIn::Bye),
     ];
     expect_frames(rt, cutter, &frames);
-}
-
-/// Feeds octets to the cutter of a new connection, and checks that the last of them is this fault.
-fn expect_fault(rt: &impl Abort, greatest: Version, octets: &[u8], cause: Cause) {
-    let mut cutter = Cutter::new(greatest);
-    expect_last(rt, &mut cutter, octets, Step::Fault(cause));
-}
-
-#[test]
-fn the_first_frame_is_of_version_1(rt: HostRuntime) {
-    expect_fault(&rt, Version::V2, &[0x02, 0x1B], Cause::BadLength);
-    // A HELLO that is not the first frame chooses no version.
-    let mut cutter = Cutter::new(Version::V2);
-    let frames: [FrameOctets<'_>; 3] = [
-        (&RECEIVED, received(&rt, None)),
-        (&[0x01, 0x04, 0x02, 0x01, 0x00, 0x01], hello(2)),
-        (&RECEIVED, received(&rt, None)),
-    ];
-    expect_frames(&rt, &mut cutter, &frames);
-    let fault = Step::Fault(Cause::BadLength);
-    expect_last(&rt, &mut cutter, &[0x02, 0x1B], fault);
-}
-
-/// Octets of a new connection, and the fault at the last of them.
-const FAULTS: [(&[u8], Cause); 6] = [
-    (&[0x00], Cause::UnknownType),
-    (&[0x06], Cause::UnknownType),
-    (&[0x81], Cause::UnknownType),
-    (&[0x01, 0x01], Cause::BadLength),
-    (&[0x02, 0x1A, 0x02], Cause::BadSlot),
-    (&[0x04, 0x01, 0x02], Cause::BadSlot),
-];
-
-#[test]
-fn faults(rt: HostRuntime) {
-    for (octets, cause) in FAULTS {
-        expect_fault(&rt, Version::V1, octets, cause);
-    }
-    for pad in [0x01, 0x02, 0x04, 0x08] {
-        let mut octets = RECEIVED;
-        octets[27] = pad;
-        expect_fault(&rt, Version::V1, &octets, Cause::BadPad);
-    }
-}
-
-#[test]
-fn other_lengths(rt: HostRuntime) {
-    for (kind, length) in [
-        (0x01, 0x04),
-        (0x02, 0x1A),
-        (0x03, 0x00),
-        (0x04, 0x01),
-        (0x05, 0x00),
-    ] {
-        for other in 0..=255u8 {
-            if other != length {
-                expect_fault(&rt, Version::V1, &[kind, other], Cause::BadLength);
-            }
-        }
-    }
 }
 
 /// TX on slot 0 with the acknowledgement of a registration, from the format's test vectors.

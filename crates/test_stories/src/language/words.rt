@@ -4,7 +4,7 @@
 //! T` and a call is `C.S R T`, with R the calling radio and T its target.
 
 use dmr_calls::{Ask, Call, Line};
-use dmr_pdu::{Address, CarrierNo, Options, OutOfMemory, Pdu, Slot, SlotNo};
+use dmr_pdu::{Address, CarrierNo, OutOfMemory, Pdu, Slot, SlotNo};
 
 /// Replaces the value of `place` and drops the old value.
 pub fn replace_with<T: Drop>(place: &mut T, value: T) {
@@ -19,12 +19,6 @@ pub fn cut(words: &str) -> (&str, &str) {
 /// Returns the address with this number.
 pub fn address_of(digits: &str) -> Option<Address> {
     Address::try_new(digits.parse::<u32>().ok()?)
-}
-
-/// Returns two addresses: two radios, or a radio and a talkgroup without its `g`.
-pub fn two_addresses_of(words: &str) -> Option<(Address, Address)> {
-    let (first, second) = cut(words);
-    Some((address_of(first)?, address_of(second)?))
 }
 
 /// Returns the carrier with this number.
@@ -54,64 +48,6 @@ pub fn pdu_of(digits: &str) -> Option<Pdu> {
     } else {
         None
     }
-}
-
-/// Returns the target of a call, and whether it is a talkgroup.
-fn target_of(word: &str) -> Option<(Address, bool)> {
-    match word.strip_prefix('g') {
-        Some(digits) => Some((address_of(digits)?, true)),
-        None => Some((address_of(word)?, false)),
-    }
-}
-
-/// Returns the ask that is written `R T OPTIONS ATTEMPT`.
-pub fn ask_of(words: &str) -> Option<Ask> {
-    let (source, others) = cut(words);
-    let (target, numbers) = cut(others);
-    let (options, attempt) = cut(numbers);
-    Some(Ask {
-        source: address_of(source)?,
-        target: address_of(target)?,
-        options: options_of(options)?,
-        attempt: attempt.parse::<u8>().ok()?,
-    })
-}
-
-/// Returns the service options with this number, 0 to 127.
-fn options_of(digits: &str) -> Option<Options> {
-    let number = digits.parse::<u32>().ok()?;
-    if number < 128 {
-        Some(Options::new(number))
-    } else {
-        None
-    }
-}
-
-/// Returns the line that is written `R T`.
-pub fn line_of(words: &str) -> Option<Line> {
-    let (source, target) = cut(words);
-    let (target, group) = target_of(target)?;
-    Some(Line {
-        source: address_of(source)?,
-        target,
-        group,
-    })
-}
-
-/// Returns the call that is written `C.S R T`.
-pub fn call_of(words: &str) -> Option<Call> {
-    let (place, parties) = cut(words);
-    let Line {
-        source,
-        target,
-        group,
-    } = line_of(parties)?;
-    Some(Call {
-        slot: slot_of(place)?,
-        source,
-        target,
-        group,
-    })
 }
 
 /// Writes a word and a slot.

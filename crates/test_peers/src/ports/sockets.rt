@@ -1,6 +1,7 @@
 //! Sockets in memory: peers that do what a script says, when it says it.
 
-ghost use Rattle.std.specs.Prelude.{◌≡◌, ◌<◌, ◌≤◌, [], None, Some, IfOk, length, map, take};
+ghost use Rattle.std.specs.Prelude.{◌≡◌, ◌<◌, ◌≤◌, [], None, Some, IfOk, length, map, slice_set};
+ghost use Rattle.std.specs.Prelude.{take};
 ghost use Rattle.std.specs.Option.{is_some};
 ghost use Rattle.std.proofs.lemmas.List.{length-map};
 ghost use Rattle.arrayvec.specs.ArrayVec.{array_vec_len};
@@ -371,6 +372,20 @@ impl MemorySockets {
         ready
     }
 
+    /// Replaces what is known of the newcomer at a place.
+    fn set_newcomer(&mut self, place: usize, newcomer: Newcomer)
+        requires { place < array_vec_len self.old.newcomers }
+        ensures set { self.new.newcomers.items
+            ≡ slice_set self.old.newcomers.items place newcomer }
+        ensures len { array_vec_len self.new.newcomers ≡ array_vec_len self.old.newcomers }
+        ensures connection { self.new.connection ≡ self.old.connection }
+        ensures log { self.new.log ≡ self.old.log }
+        ensures clock { self.new.clock ≡ self.old.clock }
+        ensures last { self.new.last ≡ self.old.last }
+    {
+        self.newcomers.as_mut_slice()[place] = newcomer;
+    }
+
     /// Waits until something is ready, at most this many milliseconds, and returns what is.
     fn find(&mut self, milliseconds: u64, sends: bool) -> Ready
         ensures connection { self.new.connection ≡ self.old.connection }
@@ -472,7 +487,6 @@ impl Sockets for MemorySockets {
         }
     }
 
-    #[tactic(auto, using(crate::proofs::ShownLemmas::shown_set))]
     fn peek(&mut self, place: usize, octets: &mut [u8]) -> Peeked {
         let mut newcomer = self.newcomers.as_slice()[place];
         let Some(peer) = self.peers.get(newcomer.peer) else {
@@ -491,16 +505,16 @@ impl Sockets for MemorySockets {
         }
         let count = copy_front(unread, octets);
         newcomer.shown = copy_front(&octets[..count], &mut newcomer.first);
-        self.newcomers.as_mut_slice()[place] = newcomer;
+        self.set_newcomer(place, newcomer);
         Peeked::Octets(newcomer.shown)
     }
 
-    #[tactic(auto, using(crate::proofs::ShownLemmas::shown_removed))]
+    #[tactic(auto, using(crate::proofs::ShownLemmas::map_removed))]
     fn refuse(&mut self, place: usize) {
         self.newcomers.remove(place);
     }
 
-    #[tactic(auto, using(crate::proofs::ShownLemmas::shown_removed))]
+    #[tactic(auto, using(crate::proofs::ShownLemmas::map_removed))]
     fn take(&mut self, place: usize) -> io::Result<()> {
         let peer = self.newcomers.remove(place).peer;
         self.connection = Some(peer);

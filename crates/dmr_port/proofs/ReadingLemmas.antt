@@ -1,5 +1,5 @@
 -- A read, step by step: the connection before it and after it.
-use Rattle.std.proofs.Common.{◌≡◌, ◌⊎◌, ℕ, Bool, true, false, not, ◌||◌, List, [], ◌∷◌, ◌++◌, length, take, Option, Some, ap, subst, ◌∙◌, sym, refl, inl, inr}
+use Rattle.std.proofs.Common.{◌≡◌, ◌≤◌, ◌⊎◌, ℕ, Bool, true, false, not, ◌||◌, List, [], ◌∷◌, ◌++◌, length, take, Option, Some, arith, ap, subst, ◌∙◌, sym, refl, inl, inr}
 use Rattle.std.proofs.lemmas.List.{take-append-le}
 use Rattle.std.proofs.lemmas.Bool.{or_parts, not-false}
 use Rattle.dmr_wire.specs.declared.wire.Got.{Got}
@@ -9,6 +9,7 @@ use Rattle.dmr_port.specs.declared.cause.CloseCause.{CloseCause}
 use Rattle.dmr_port.specs.declared.cause.CloseCause.TheVariants.{EndOfInput, Http}
 use Rattle.dmr_port.specs.declared.patience.Patience.{Patience}
 use Rattle.dmr_port.specs.declared.served.Served.{Served}
+use Rattle.dmr_port.specs.Budget.{Gives, Window}
 use Rattle.dmr_port.specs.FirstOctets.{begins_http}
 use Rattle.dmr_port.specs.Patience.{patience_after_octets}
 use Rattle.dmr_port.specs.PortState.{Connection, HasReadFrom, HasReadNothing, HasReadOctets, connection_of}
@@ -158,3 +159,13 @@ reads_nothing is_carrier first second octets result log log' waiting waiting' pa
 pub reads_unserved : (is_carrier : Bool) (first octets : List ℕ) (log : Option (List Answer)) (waiting : List ℕ) → ReadsAfterSending is_carrier first log waiting got.Fault octets first log waiting
 reads_unserved is_carrier first octets log waiting =
     reads_nothing is_carrier first first octets got.Fault log log waiting waiting (passes_nothing log waiting) refl (inl refl)
+
+-- octets are given later than kept ones are sent
+pub gives_later : (before mid after count : ℕ) (old new : Window) → before ≤ mid → Gives mid old count new after → Gives before old count new after
+gives_later before mid after count old new early gives = record {
+  given = elim gives.given [
+    | inl same ↦ inl same
+    | inr fresh ↦ inr (fresh.0, omega (arith, early, fresh.1), fresh.2, fresh.3)
+  ];
+  within = gives.within;
+}

@@ -14,9 +14,10 @@ fresh_window now = record { began = now; given = 0 }
 abbrev pub window_at : Window → ℕ → Window
 window_at window now = if nat_lt (now - window.began) 60 then window else fresh_window now
 
--- this number of octets was given, and counted: in the window, or in one that began at least 60 ms after it. At most
--- 512 are given in a window
-pub record Gives (old : Window) (count : ℕ) (new : Window) : Type 0 where
+-- this number of octets was given, and counted, between these times: in the window, or in one that began then, at
+-- least 60 ms after it. At most 512 are given in a window
+pub record Gives (before : ℕ) (old : Window) (count : ℕ) (new : Window) (after : ℕ) : Type 0 where
   pub given : ((new.began ≡ old.began) × (old.given + count ≤ new.given))
-      ⊎ ((old.began + 60 ≤ new.began) × (count ≤ new.given))
+      ⊎ ((old.began + 60 ≤ new.began) × (before ≤ new.began) × (new.began ≤ after)
+      × (count ≤ new.given))
   pub within : new.given ≤ 512

@@ -1,7 +1,7 @@
 -- A port, as its callers see it.
-use Rattle.std.specs.Prelude.{◌≡◌, ◌↔◌, ◌⊎◌, ℕ, ◌≤◌, ◌++◌, ◌==◌, ◌||◌, if◌then◌else◌, Bool, true}
-use Rattle.std.specs.Prelude.{false, not, List, [], ◌∷◌, length, take, Option, Some, None, IsTrue}
-use Rattle.std.specs.Prelude.{nat_eq}
+use Rattle.std.specs.Prelude.{◌≡◌, ◌↔◌, ◌⊎◌, ℕ, ◌-◌, ◌≤◌, min, ◌++◌, ◌==◌, ◌||◌, if◌then◌else◌}
+use Rattle.std.specs.Prelude.{Bool, true, false, not, List, [], ◌∷◌, length, take, Option, Some, None}
+use Rattle.std.specs.Prelude.{IsTrue, nat_eq}
 use Rattle.std.specs.Option.{option_or}
 use Rattle.dmr_wire.specs.declared.wire.Got.{Got}
 use Rattle.dmr_wire.specs.declared.wire.Got.TheVariants as got
@@ -16,12 +16,15 @@ use Rattle.dmr_port.specs.declared.cause.CloseCause.TheVariants.{WriteFault}
 use Rattle.dmr_port.specs.declared.patience.Patience.{Patience}
 use Rattle.dmr_port.specs.declared.served.Served.{Served}
 use Rattle.dmr_port.specs.declared.settings.PortSettings.{PortSettings}
+use Rattle.dmr_port.specs.declared.sockets.Ready.{Ready}
 use Rattle.dmr_port.specs.Budget.{Window, fresh_window}
 use Rattle.dmr_port.specs.FirstOctets.{IsHello, begins_http}
+use Rattle.dmr_port.specs.Newcomers.{IsClaimedAs}
 use Rattle.dmr_port.specs.Patience.{new_patience, patience_after_octets, patience_after_wait}
 use Rattle.dmr_port.specs.Served.{cause_of_served}
 use Rattle.dmr_port.specs.Settings.{is_carrier}
 use Rattle.dmr_port.specs.Record.{Agrees, Traffic, no_traffic, traffic_of}
+use Rattle.dmr_port.specs.Sockets.{Found}
 use Rattle.dmr_port.specs.Unsent.{PassesOctets, ReadsAfterSending}
 
 -- the connection that is served: how long the port has waited for it, its first eight octets, and why it ended, if that
@@ -55,7 +58,8 @@ first_if_served (Some c) = Some c.first
 
 -- a port: its settings, its connection, if there is one, the octets that are kept for the connection, and what the
 -- sockets answered, if that is known. Also the number of newcomers, the octets that were given in the window, and who
--- sees the port's answers
+-- sees the port's answers. Of time, what the clock says, and up to when waits have been counted. Of the sockets, if
+-- that is known, what the latest wait found, and the octets that each newcomer has shown
 pub record PortState (W : Type 0) : Type 0 where
   pub settings : PortSettings
   pub connection : Option Connection
@@ -64,10 +68,15 @@ pub record PortState (W : Type 0) : Type 0 where
   pub waiting : ℕ
   pub window : Window
   pub witness : W
+  pub clock : ℕ
+  pub counted : ℕ
+  pub found : Option Found
+  pub shown : Option (List (List ℕ))
 
--- a port that has done nothing
-abbrev pub empty_port : {W : Type 0} → PortSettings → Option (List Answer) → W → PortState W
-empty_port settings log witness =
+-- a port that has done nothing, over sockets with this log, clock, finding, and octets shown
+abbrev pub empty_port : {W : Type 0} → PortSettings → Option (List Answer) → ℕ → Option Found
+    → Option (List (List ℕ)) → W → PortState W
+empty_port settings log clock found shown witness =
     record {
       settings = settings;
       connection = None;
@@ -76,6 +85,10 @@ empty_port settings log witness =
       waiting = 0;
       window = fresh_window 0;
       witness = witness;
+      clock = clock;
+      counted = 0;
+      found = found;
+      shown = shown;
     }
 
 -- the port's record agrees with the log of its sockets
@@ -169,25 +182,40 @@ abbrev pub waited_by : Option CloseCause → Waited
 waited_by None = Again
 waited_by (Some cause) = Silent
 
--- a wait of at most 100 ms with a connection, after which it is given up by the rules, or goes on. `ready`: it could
--- then be read, or written if octets are kept. `is_claimed`: a newcomer has sent a HELLO for this carrier
-pub record HasWaitedFor (silence : ℕ) (keeps : Bool) (old new : Connection)
-    (result : Waited) : Type 0 where
-  pub milliseconds : ℕ
-  pub within : milliseconds ≤ 100
-  pub ready : Bool
-  pub is_claimed : Bool
+-- a wait with a connection, which counts as this many milliseconds. After it the connection is given up by the rules,
+-- or goes on. `ready`: it could then be read, or written if octets are kept. `is_claimed`: a newcomer claims its place
+pub record HasWaitedFor (silence milliseconds : ℕ) (keeps ready is_claimed : Bool)
+    (old new : Connection) (result : Waited) : Type 0 where
   pub patience : new.patience ≡ patience_after_wait milliseconds keeps old.patience
   pub first : new.first ≡ old.first
   pub waited : result ≡ waited_by (cause_of_served silence keeps ready is_claimed new.patience)
   pub ended : new.ended
       ≡ option_or (cause_of_served silence keeps ready is_claimed new.patience) old.ended
 
--- a wait: without a connection it is silent
-abbrev pub HasWaited : ℕ → Bool → Option Connection → Option Connection → Waited → Type 0
-HasWaited silence keeps None None result = result ≡ Silent
-HasWaited silence keeps (Some old) (Some new) result = HasWaitedFor silence keeps old new result
-HasWaited silence keeps old new result = ⊥
+-- the same, if there is a connection: without one a wait is silent
+abbrev pub HasWaitedIf : ℕ → ℕ → Bool → Bool → Bool → Option Connection → Option Connection
+    → Waited → Type 0
+HasWaitedIf silence milliseconds keeps ready is_claimed None None result = result ≡ Silent
+HasWaitedIf silence milliseconds keeps ready is_claimed (Some old) (Some new) result =
+    HasWaitedFor silence milliseconds keeps ready is_claimed old new result
+HasWaitedIf silence milliseconds keeps ready is_claimed old new result = ⊥
+
+-- the sockets' latest wait began after this time and found this. It ended before waits were counted up to `counted`
+pub record IsFinding (before : ℕ) (ready : Ready) (counted : ℕ) (found : Option Found)
+    : Type 0 where
+  pub finding : (f : Found) → found ≡ Some f
+      → (before ≤ f.ended) × (f.ended ≤ counted) × (f.ready ≡ ready)
+
+-- a wait of a port. It counts as the time since waits were last counted, at most as 100 ms
+pub record HasWaited {W : Type 0} (old new : PortState W) (result : Waited) : Type 0 where
+  pub ready : Ready
+  pub is_claimed : Bool
+  pub after : old.clock ≤ new.counted
+  pub before : new.counted ≤ new.clock
+  pub finding : IsFinding old.clock ready new.counted new.found
+  pub claim : IsClaimedAs old.settings new.shown is_claimed
+  pub judged : HasWaitedIf old.settings.silence (min (new.counted - old.counted) 100)
+      (keeps_octets old.unsent) ready.connection is_claimed old.connection new.connection result
 
 -- the cause is kept, unless the connection has one
 abbrev pub with_cause : CloseCause → Connection → Connection

@@ -1,11 +1,14 @@
--- What the calls of a port's sockets do to the connection that is served and to the newcomers that wait.
-use Rattle.std.specs.Prelude.{ℕ, ◌+◌, ◌≤◌, List, [], take}
+-- What the calls of a port's sockets do to the connection that is served and to the newcomers that wait, and what they
+-- find.
+use Rattle.std.specs.Prelude.{ℕ, ◌+◌, ◌≤◌, ◌++◌, List, [], ◌∷◌, take, remove, slice_set, Option}
+use Rattle.std.specs.Prelude.{option_map}
 use Rattle.dmr_wire.specs.declared.wire.Put.{Put}
 use Rattle.dmr_wire.specs.declared.wire.Put.TheVariants as put
 use Rattle.dmr_port.specs.declared.sockets.Accepted.{Accepted}
 use Rattle.dmr_port.specs.declared.sockets.Accepted.TheVariants as accepted
 use Rattle.dmr_port.specs.declared.sockets.Peeked.{Peeked}
 use Rattle.dmr_port.specs.declared.sockets.Peeked.TheVariants as peeked
+use Rattle.dmr_port.specs.declared.sockets.Ready.{Ready}
 
 -- the number of newcomers after an accept: one more if one came
 abbrev pub waiting_after : ℕ → Accepted → ℕ
@@ -21,3 +24,30 @@ PeekedWithin other len = Unit {0}
 abbrev pub taken_by : Put → List ℕ → List ℕ
 taken_by (put.Octets n) octets = take n octets
 taken_by other octets = []
+
+-- what a wait found, and the time at its end
+pub record Found : Type 0 where
+  pub ready : Ready
+  pub ended : ℕ
+
+-- what the latest wait found, after one more
+abbrev pub found_after : Ready → ℕ → Option Found → Option Found
+found_after ready ended found =
+    option_map (λ (_ : Found). record { ready = ready; ended = ended }) found
+
+-- the octets that each newcomer has shown, after an accept: the newest none
+abbrev pub shown_after_accept : Accepted → Option (List (List ℕ)) → Option (List (List ℕ))
+shown_after_accept (accepted.Came from) shown =
+    option_map (λ (octets : List (List ℕ)). octets ++ [] ∷ []) shown
+shown_after_accept other shown = shown
+
+-- after a look at the newcomer at a place
+abbrev pub shown_after_peek : ℕ → Peeked → List ℕ → Option (List (List ℕ))
+    → Option (List (List ℕ))
+shown_after_peek place (peeked.Octets n) first shown =
+    option_map (λ (octets : List (List ℕ)). slice_set octets place (take n first)) shown
+shown_after_peek place other first shown = shown
+
+-- without the newcomer at a place
+abbrev pub shown_without : ℕ → Option (List (List ℕ)) → Option (List (List ℕ))
+shown_without place shown = option_map (λ (octets : List (List ℕ)). remove octets place) shown

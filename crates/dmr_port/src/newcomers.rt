@@ -2,7 +2,7 @@
 
 ghost use Rattle.std.specs.Prelude.{◌≡◌, ◌+◌, ◌<◌, ◌≤◌, true, false, length};
 ghost use Rattle.arrayvec.specs.ArrayVec.{array_vec_len};
-ghost use Rattle.dmr_port.specs.Newcomers.{IsKnownAs};
+ghost use Rattle.dmr_port.specs.Newcomers.{AreKnown, IsKnownAs};
 ghost use Rattle.dmr_port.specs.Sockets.{PeekedWithin};
 
 use crate::first_octets::HELLO_OCTETS;
@@ -35,6 +35,7 @@ fn newcomer_after(
 
 /// Looks at the newcomer at a place, unless it is known to have sent a HELLO for this carrier. Closes it if its
 /// connection has ended. Returns whether it still waits.
+#[tactic(auto, using(crate::proofs::NewcomersLemmas::known_looked, crate::proofs::NewcomersLemmas::known_ended))]
 fn look_at<S: Sockets>(
     sockets: &mut S,
     room: &mut WaitingRoom,
@@ -43,13 +44,17 @@ fn look_at<S: Sockets>(
 ) -> bool
     requires place { place < array_vec_len room.old.newcomers }
     requires all { S.waiting sockets.old ≡ array_vec_len room.old.newcomers }
+    requires known { AreKnown settings.now room.old.newcomers.items (S.shown sockets.old) }
     ensures all { S.waiting sockets.new ≡ array_vec_len room.new.newcomers }
+    ensures known { AreKnown settings.now room.new.newcomers.items (S.shown sockets.new) }
     ensures stays { result ≡ true
         → array_vec_len room.new.newcomers ≡ array_vec_len room.old.newcomers }
     ensures goes { result ≡ false
         → array_vec_len room.new.newcomers + 1 ≡ array_vec_len room.old.newcomers }
     ensures connection { S.is_open sockets.new ≡ S.is_open sockets.old }
     ensures log { S.log sockets.new ≡ S.log sockets.old }
+    ensures clock { S.clock sockets.old ≤ S.clock sockets.new }
+    ensures found { S.found sockets.new ≡ S.found sockets.old }
 {
     let newcomer = room.at(place);
     if newcomer.has_hello {
@@ -73,11 +78,15 @@ fn look_at<S: Sockets>(
 /// Looks at all newcomers that are not known to have sent a HELLO for this carrier. Closes those whose connections have
 /// ended.
 pub fn look_at_all<S: Sockets>(sockets: &mut S, room: &mut WaitingRoom, settings: &PortSettings)
-    requires { S.waiting sockets.old ≡ array_vec_len room.old.newcomers }
+    requires all { S.waiting sockets.old ≡ array_vec_len room.old.newcomers }
+    requires known { AreKnown settings.now room.old.newcomers.items (S.shown sockets.old) }
     ensures all { S.waiting sockets.new ≡ array_vec_len room.new.newcomers }
+    ensures known { AreKnown settings.now room.new.newcomers.items (S.shown sockets.new) }
     ensures few { array_vec_len room.new.newcomers ≤ array_vec_len room.old.newcomers }
     ensures connection { S.is_open sockets.new ≡ S.is_open sockets.old }
     ensures log { S.log sockets.new ≡ S.log sockets.old }
+    ensures clock { S.clock sockets.old ≤ S.clock sockets.new }
+    ensures found { S.found sockets.new ≡ S.found sockets.old }
 {
     let mut place = 0;
     while place < room.len() {
@@ -89,6 +98,7 @@ pub fn look_at_all<S: Sockets>(sockets: &mut S, room: &mut WaitingRoom, settings
 
 /// Closes a newcomer if more wait than may: after a look at all of them, the one whose place is
 /// [`WaitingRoom::place_of_refused`]. Returns its address, or `None` if there was room, or the look made room.
+#[tactic(auto, using(crate::proofs::NewcomersLemmas::known_removed))]
 pub fn make_room<S: Sockets>(
     sockets: &mut S,
     room: &mut WaitingRoom,
@@ -96,10 +106,14 @@ pub fn make_room<S: Sockets>(
 ) -> Option<SocketAddr>
     requires all { S.waiting sockets.old ≡ array_vec_len room.old.newcomers }
     requires few { array_vec_len room.old.newcomers ≤ 9 }
+    requires known { AreKnown settings.now room.old.newcomers.items (S.shown sockets.old) }
     ensures all { S.waiting sockets.new ≡ array_vec_len room.new.newcomers }
+    ensures known { AreKnown settings.now room.new.newcomers.items (S.shown sockets.new) }
     ensures few { array_vec_len room.new.newcomers ≤ 8 }
     ensures connection { S.is_open sockets.new ≡ S.is_open sockets.old }
     ensures log { S.log sockets.new ≡ S.log sockets.old }
+    ensures clock { S.clock sockets.old ≤ S.clock sockets.new }
+    ensures found { S.found sockets.new ≡ S.found sockets.old }
 {
     if room.len() <= MOST_WAITING {
         return None;

@@ -32,6 +32,9 @@ fn send_kept<S: Sockets>(sockets: &mut S, unsent: &mut Unsent, served: &mut Serv
     ensures first { served.new.first ≡ served.old.first }
     ensures connection { S.is_open sockets.new ≡ true }
     ensures waiting { S.waiting sockets.new ≡ S.waiting sockets.old }
+    ensures clock { S.clock sockets.old ≤ S.clock sockets.new }
+    ensures found { S.found sockets.new ≡ S.found sockets.old }
+    ensures shown { S.shown sockets.new ≡ S.shown sockets.old }
 {
     if unsent.is_empty() {
         return Sent::All;
@@ -59,6 +62,9 @@ fn ask<S: Sockets>(sockets: &mut S, octets: &mut [u8], asked: usize) -> Got
         (S.log sockets.new) }
     ensures connection { S.is_open sockets.new ≡ true }
     ensures waiting { S.waiting sockets.new ≡ S.waiting sockets.old }
+    ensures clock { S.clock sockets.old ≤ S.clock sockets.new }
+    ensures found { S.found sockets.new ≡ S.found sockets.old }
+    ensures shown { S.shown sockets.new ≡ S.shown sockets.old }
 {
     sockets.read(&mut octets[..asked])
 }
@@ -79,12 +85,16 @@ fn read_sockets<S: Sockets>(
     ensures within { GotWithin result (length octets.new) }
     ensures log { Reads is_carrier served.old.first.octets.items (S.log sockets.old)
         result octets.new served.new.first.octets.items (S.log sockets.new) }
-    ensures budget { Gives budget.old (count_of result) budget.new }
+    ensures budget { Gives (S.clock sockets.old) budget.old (count_of result) budget.new
+        (S.clock sockets.new) }
     ensures reads { HasReadFrom is_carrier (connection_of served.old) result octets.new
         (connection_of served.new) }
     ensures unread { served.new.patience.unread ≡ served.old.patience.unread }
     ensures connection { S.is_open sockets.new ≡ true }
     ensures waiting { S.waiting sockets.new ≡ S.waiting sockets.old }
+    ensures clock { S.clock sockets.old ≤ S.clock sockets.new }
+    ensures found { S.found sockets.new ≡ S.found sockets.old }
+    ensures shown { S.shown sockets.new ≡ S.shown sockets.old }
 {
     let now = sockets.now();
     let asked = octets.len().min(usize::from(budget.left_at(now)));
@@ -110,7 +120,7 @@ fn read_sockets<S: Sockets>(
 
 /// Reads octets of the connection, after sending those that are kept. If some of these are left, the read would block,
 /// and if they cannot be sent, it fails.
-#[tactic(auto, using(crate::proofs::ReadingLemmas::read_later, crate::proofs::ReadingLemmas::reads_then, crate::proofs::ReadingLemmas::reads_nothing))]
+#[tactic(auto, using(crate::proofs::ReadingLemmas::read_later, crate::proofs::ReadingLemmas::reads_then, crate::proofs::ReadingLemmas::reads_nothing, crate::proofs::ReadingLemmas::gives_later))]
 pub fn read_connection<S: Sockets>(
     sockets: &mut S,
     unsent: &mut Unsent,
@@ -127,7 +137,8 @@ pub fn read_connection<S: Sockets>(
         (S.log sockets.old) unsent.old result octets.new served.new.first.octets.items
         (S.log sockets.new) unsent.new }
     ensures behind { (count : ℕ) → result ≡ Got.Octets count → unsent.new ≡ [] }
-    ensures budget { Gives budget.old (count_of result) budget.new }
+    ensures budget { Gives (S.clock sockets.old) budget.old (count_of result) budget.new
+        (S.clock sockets.new) }
     ensures reads { HasReadFrom is_carrier (connection_of served.old) result octets.new
         (connection_of served.new) }
     ensures unread { unsent.new ≢ [] → served.new.patience.unread ≡ served.old.patience.unread }
@@ -137,6 +148,9 @@ pub fn read_connection<S: Sockets>(
         → served.new.patience.unread ≡ 0 }
     ensures connection { S.is_open sockets.new ≡ true }
     ensures waiting { S.waiting sockets.new ≡ S.waiting sockets.old }
+    ensures clock { S.clock sockets.old ≤ S.clock sockets.new }
+    ensures found { S.found sockets.new ≡ S.found sockets.old }
+    ensures shown { S.shown sockets.new ≡ S.shown sockets.old }
 {
     match send_kept(sockets, unsent, served) {
         Sent::All => read_sockets(sockets, budget, served, is_carrier, octets),

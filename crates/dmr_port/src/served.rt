@@ -179,9 +179,8 @@ impl Served {
         silence: u16,
         is_claimed: bool,
     ) -> Option<CloseCause>
-        requires { milliseconds ≤ 100 }
-        ensures { HasWaitedFor silence keeps (connection_of self.old) (connection_of self.new)
-            (waited_by result) }
+        ensures { HasWaitedFor silence milliseconds keeps ready.connection is_claimed
+            (connection_of self.old) (connection_of self.new) (waited_by result) }
     {
         self.note_wait(ready, milliseconds, keeps);
         let cause = self.cause_after_wait(silence, keeps, ready.connection, is_claimed);

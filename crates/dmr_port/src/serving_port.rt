@@ -1,17 +1,18 @@
 //! The port: a connection at a time for the link, over sockets.
 
-ghost use Rattle.std.specs.Prelude.{◌≡◌, ◌≢◌, ◌≤◌, ◌<◌, ◌+◌, ℕ, [], ◌∷◌, true, false, None, Some};
-ghost use Rattle.std.specs.Prelude.{length, option_map, IfOk, IfErr};
+ghost use Rattle.std.specs.Prelude.{◌≡◌, ◌≢◌, ◌≤◌, ◌<◌, ◌+◌, ◌-◌, ℕ, [], ◌∷◌, true, false, None};
+ghost use Rattle.std.specs.Prelude.{Some, length, min, option_map, IfOk, IfErr};
 ghost use Rattle.std.specs.Option.{is_some};
 ghost use Rattle.dmr_wire.specs.Answers.{GotWithin, Opened, PutWithin, Reports, of_connect};
 ghost use Rattle.dmr_wire.specs.Answers.{of_read};
 ghost use Rattle.dmr_wire.specs.Answers.{of_wait, of_write};
 ghost use Rattle.dmr_port.specs.Budget.{Gives};
 ghost use Rattle.dmr_port.specs.Causes.{cause_of_closing};
-ghost use Rattle.dmr_port.specs.PortState.{HasRead, HasWaited, IsFresh, Passes, PassesThenReads};
-ghost use Rattle.dmr_port.specs.PortState.{PortAgrees, connection_after_write, count_of};
-ghost use Rattle.dmr_port.specs.PortState.{Connection, empty_port};
-ghost use Rattle.dmr_port.specs.PortState.{keeps_octets, unread_of, with_cause};
+ghost use Rattle.dmr_port.specs.Newcomers.{IsClaimedAs};
+ghost use Rattle.dmr_port.specs.PortState.{Connection, HasRead, HasWaited, HasWaitedIf, IsFinding};
+ghost use Rattle.dmr_port.specs.PortState.{IsFresh, Passes, PassesThenReads, PortAgrees};
+ghost use Rattle.dmr_port.specs.PortState.{connection_after_write, count_of, empty_port, unread_of};
+ghost use Rattle.dmr_port.specs.PortState.{with_cause};
 ghost use Rattle.dmr_port.specs.Record.{Agrees};
 ghost use Rattle.dmr_port.specs.Settings.{is_carrier};
 ghost use Rattle.dmr_port.specs.Sockets.{taken_by};
@@ -88,6 +89,7 @@ impl<S: Sockets + Drop, N: PortNotes + Drop, W: Witness + Drop> Model for Servin
     ghost use Rattle.std.specs.Prelude.{◌≡◌, ◌≤◌, [], false, option_map};
     ghost use Rattle.std.specs.Option.{is_some};
     ghost use Rattle.arrayvec.specs.ArrayVec.{array_vec_len};
+    ghost use Rattle.dmr_port.specs.Newcomers.{AreKnown};
     ghost use Rattle.dmr_port.specs.PortState.{PortState, connection_of, first_if_served};
     ghost use Rattle.dmr_port.specs.Record.{Agrees};
     ghost use Rattle.dmr_port.specs.Settings.{is_carrier};
@@ -102,6 +104,10 @@ impl<S: Sockets + Drop, N: PortNotes + Drop, W: Witness + Drop> Model for Servin
       waiting = array_vec_len p.room.newcomers;
       window = p.budget;
       witness = p.witness;
+      clock = S.clock p.sockets;
+      counted = p.counted;
+      found = S.found p.sockets;
+      shown = S.shown p.sockets;
     } };
 
     ghost invariant = { λ p. (S.is_open p.sockets ≡ is_some p.served)
@@ -109,7 +115,8 @@ impl<S: Sockets + Drop, N: PortNotes + Drop, W: Witness + Drop> Model for Servin
         × (array_vec_len p.room.newcomers ≤ 8) × (is_some p.served ≡ false → p.unsent ≡ [])
         × (p.budget.given ≤ 512)
         × Agrees (is_carrier p.settings.whose) (first_if_served (option_map connection_of p.served))
-        p.unsent (S.log p.sockets) (W.reported p.witness) };
+        p.unsent (S.log p.sockets) (W.reported p.witness)
+        × AreKnown p.settings p.room.newcomers.items (S.shown p.sockets) };
 }
 
 impl<S: Sockets + Drop, N: PortNotes + Drop> ServingPort<S, N> {
@@ -124,7 +131,8 @@ impl<S: Sockets + Drop, N: PortNotes + Drop> ServingPort<S, N> {
     ) -> Result<ServingPort<S, N>, (OutOfMemory, S, N)>
         requires connection { S.is_open sockets ≡ false }
         requires newcomers { S.waiting sockets ≡ 0 }
-        ensures ok { IfOk result (λ port. port ≡ empty_port settings (S.log sockets) (record {})) }
+        ensures ok { IfOk result (λ port. port ≡ empty_port settings (S.log sockets)
+            (S.clock sockets) (S.found sockets) (S.shown sockets) (record {})) }
         ensures err { IfErr result (λ refused. (refused.1 ≡ sockets) × (refused.2 ≡ notes)) }
     {
         match ServingPort::with_witness(alloc, sockets, notes, settings, NoWitness) {
@@ -149,7 +157,8 @@ impl<S: Sockets + Drop, N: PortNotes + Drop, W: Witness + Drop> ServingPort<S, N
         requires newcomers { S.waiting sockets ≡ 0 }
         requires record { Agrees (is_carrier settings.whose) None []
             (S.log sockets) (W.reported witness) }
-        ensures ok { IfOk result (λ port. port ≡ empty_port settings (S.log sockets) witness) }
+        ensures ok { IfOk result (λ port. port ≡ empty_port settings (S.log sockets)
+            (S.clock sockets) (S.found sockets) (S.shown sockets) witness) }
         ensures err { IfErr result (λ refused. (refused.1 ≡ sockets) × (refused.2 ≡ notes)
             × (refused.3 ≡ witness)) }
     {
@@ -202,7 +211,8 @@ impl<S: Sockets + Drop, N: PortNotes + Drop, W: Witness + Drop> ServingPort<S, N
     /// Writes a note.
     #[inline(never)]
     fn note(&mut self, note: &Note<'_>)
-        ensures { self.new ≡ self.old }
+        ensures port { self.new ≡ record self.old { clock = self.new.clock } }
+        ensures clock { self.old.clock ≤ self.new.clock }
     {
         let now = self.sockets.now();
         self.log.write(now, note);
@@ -211,8 +221,14 @@ impl<S: Sockets + Drop, N: PortNotes + Drop, W: Witness + Drop> ServingPort<S, N
     /// Closes the connection that is served, if there is one. Kept octets that it does not take at once are lost.
     #[inline(never)]
     fn let_go(&mut self)
-        ensures { self.new
-            ≡ record self.old { connection = None; unsent = []; log = self.new.log } }
+        ensures port { self.new
+            ≡ record self.old {
+              connection = None;
+              unsent = [];
+              log = self.new.log;
+              clock = self.new.clock;
+            } }
+        ensures clock { self.old.clock ≤ self.new.clock }
     {
         let Some(served) = self.served.take() else {
             return;
@@ -229,7 +245,7 @@ impl<S: Sockets + Drop, N: PortNotes + Drop, W: Witness + Drop> ServingPort<S, N
 
     /// Serves the newcomer at a place, and answers so to the link. Returns `false` if it cannot be polled; it is then
     /// closed, and nothing is answered.
-    #[tactic(auto, using(crate::proofs::RecordLemmas::agrees_opened, crate::proofs::RecordLemmas::has_begun))]
+    #[tactic(auto, using(crate::proofs::NewcomersLemmas::known_removed, crate::proofs::RecordLemmas::agrees_opened, crate::proofs::RecordLemmas::has_begun))]
     fn serve(&mut self, place: usize) -> bool
         requires place { place < self.old.waiting }
         requires connection { self.old.connection ≡ None }
@@ -241,6 +257,9 @@ impl<S: Sockets + Drop, N: PortNotes + Drop, W: Witness + Drop> ServingPort<S, N
         ensures answers { result ≡ true
             → Reports (W.reported self.old.witness) (Opened ∷ []) (W.reported self.new.witness) }
         ensures silent { result ≡ false → self.new.witness ≡ self.old.witness }
+        ensures clock { self.old.clock ≤ self.new.clock }
+        ensures counted { result ≡ true
+            → (self.old.clock ≤ self.new.counted) × (self.new.counted ≤ self.new.clock) }
     {
         let from = self.room.remove(place).from;
         match self.sockets.take(place) {
@@ -277,7 +296,8 @@ impl<S: Sockets + Drop, N: PortNotes + Drop, W: Witness + Drop> ServingPort<S, N
 
     /// Notes that connections cannot be accepted, unless that has just been noted.
     fn note_refusal(&mut self, error: &io::Error)
-        ensures { self.new ≡ self.old }
+        ensures port { self.new ≡ record self.old { clock = self.new.clock } }
+        ensures clock { self.old.clock ≤ self.new.clock }
     {
         if !self.refuses {
             self.refuses = true;
@@ -287,7 +307,8 @@ impl<S: Sockets + Drop, N: PortNotes + Drop, W: Witness + Drop> ServingPort<S, N
 
     /// Notes that connections can be accepted again, if they could not.
     fn note_no_refusal(&mut self)
-        ensures { self.new ≡ self.old }
+        ensures port { self.new ≡ record self.old { clock = self.new.clock } }
+        ensures clock { self.old.clock ≤ self.new.clock }
     {
         if self.refuses {
             self.refuses = false;
@@ -297,7 +318,8 @@ impl<S: Sockets + Drop, N: PortNotes + Drop, W: Witness + Drop> ServingPort<S, N
 
     /// Notes that a newcomer came, and which was closed because of it, if one was.
     fn note_newcomer(&mut self, from: SocketAddr, refused: Option<SocketAddr>)
-        ensures { self.new ≡ self.old }
+        ensures port { self.new ≡ record self.old { clock = self.new.clock } }
+        ensures clock { self.old.clock ≤ self.new.clock }
     {
         self.note_no_refusal();
         if let Some(from) = refused {
@@ -310,8 +332,14 @@ impl<S: Sockets + Drop, N: PortNotes + Drop, W: Witness + Drop> ServingPort<S, N
     }
 
     /// Accepts a connection, if one has come. Returns whether another may have come.
+    #[tactic(auto, using(crate::proofs::NewcomersLemmas::known_added))]
     fn accept_one(&mut self) -> bool
-        ensures { self.new ≡ record self.old { waiting = self.new.waiting } }
+        ensures port { self.new ≡ record self.old {
+          waiting = self.new.waiting;
+          clock = self.new.clock;
+          shown = self.new.shown;
+        } }
+        ensures clock { self.old.clock ≤ self.new.clock }
     {
         match self.sockets.accept() {
             Accepted::Came(from) => {
@@ -338,7 +366,12 @@ impl<S: Sockets + Drop, N: PortNotes + Drop, W: Witness + Drop> ServingPort<S, N
     /// Accepts the connections that have come, and looks at what the newcomers have sent.
     #[inline(never)]
     fn admit(&mut self)
-        ensures { self.new ≡ record self.old { waiting = self.new.waiting } }
+        ensures port { self.new ≡ record self.old {
+          waiting = self.new.waiting;
+          clock = self.new.clock;
+          shown = self.new.shown;
+        } }
+        ensures clock { self.old.clock ≤ self.new.clock }
     {
         let mut more = true;
         for _ in 0..MOST_ACCEPTS {
@@ -370,9 +403,19 @@ impl<S: Sockets + Drop, N: PortNotes + Drop, W: Witness + Drop> ServingPort<S, N
     /// Waits, and accepts newcomers if there is news of some. Returns what the wait found, and how many milliseconds
     /// passed since the end of the wait before, at most those of one wait. Counted from there, waits that end at once
     /// add up.
+    #[tactic(auto, using(crate::proofs::ServedLemmas::is_finding))]
     fn wait_and_admit(&mut self, keeps: bool) -> (Ready, u32)
-        ensures within { result.1 ≤ 100 }
-        ensures port { self.new ≡ record self.old { waiting = self.new.waiting } }
+        ensures milliseconds { result.1 ≡ min (self.new.counted - self.old.counted) 100 }
+        ensures after { self.old.clock ≤ self.new.counted }
+        ensures before { self.new.counted ≤ self.new.clock }
+        ensures finding { IsFinding self.old.clock result.0 self.new.counted self.new.found }
+        ensures port { self.new ≡ record self.old {
+          waiting = self.new.waiting;
+          clock = self.new.clock;
+          counted = self.new.counted;
+          found = self.new.found;
+          shown = self.new.shown;
+        } }
     {
         let before = self.sockets.now();
         let asked = self.milliseconds_to_wait(before);
@@ -389,7 +432,8 @@ impl<S: Sockets + Drop, N: PortNotes + Drop, W: Witness + Drop> ServingPort<S, N
     /// Notes that the connection yields its place to a claimant, if it was given up for that.
     #[inline(never)]
     fn note_displaced(&mut self, cause: CloseCause, from: SocketAddr, quiet: u32)
-        ensures { self.new ≡ self.old }
+        ensures port { self.new ≡ record self.old { clock = self.new.clock } }
+        ensures clock { self.old.clock ≤ self.new.clock }
     {
         if cause != CloseCause::Displaced {
             return;
@@ -400,16 +444,26 @@ impl<S: Sockets + Drop, N: PortNotes + Drop, W: Witness + Drop> ServingPort<S, N
         }
     }
 
+    /// Returns whether a newcomer has sent a HELLO for this carrier.
+    #[tactic(auto, using(crate::proofs::NewcomersLemmas::claimed))]
+    fn is_claimed(&self) -> bool
+        ensures { IsClaimedAs self.now.settings self.now.shown result }
+    {
+        self.room.place_of_claimant().is_some()
+    }
+
     /// Decides after a wait of this many milliseconds whether the connection goes on. `keeps`: octets were kept for it
-    /// during the wait.
-    fn judge(&mut self, ready: Ready, milliseconds: u32, keeps: bool) -> Waited
-        requires { milliseconds ≤ 100 }
-        ensures judged { HasWaited self.old.settings.silence keeps self.old.connection
-            self.new.connection result }
-        ensures port { self.new ≡ record self.old { connection = self.new.connection } }
+    /// during the wait. `is_claimed`: a newcomer has sent a HELLO for this carrier.
+    fn judge(&mut self, ready: Ready, milliseconds: u32, keeps: bool, is_claimed: bool) -> Waited
+        ensures judged { HasWaitedIf self.old.settings.silence milliseconds keeps ready.connection
+            is_claimed self.old.connection self.new.connection result }
+        ensures port { self.new ≡ record self.old {
+          connection = self.new.connection;
+          clock = self.new.clock;
+        } }
+        ensures clock { self.old.clock ≤ self.new.clock }
         ensures few { self.new.waiting ≤ 8 }
     {
-        let is_claimed = self.room.place_of_claimant().is_some();
         let silence = self.settings.silence;
         let Some(served) = &mut self.served else {
             return Waited::Silent;
@@ -441,7 +495,8 @@ impl<S: Sockets + Drop, N: PortNotes + Drop, W: Witness + Drop> Wire for Serving
             (W.reported self.new.witness) }
         ensures passes { PassesThenReads self.old result octets.new self.new }
         ensures behind { (count : ℕ) → result ≡ Got.Octets count → self.new.unsent ≡ [] }
-        ensures budget { Gives self.old.window (count_of result) self.new.window }
+        ensures budget { Gives self.old.clock self.old.window (count_of result) self.new.window
+            self.new.clock }
         ensures unread { self.new.unsent ≢ []
             → option_map unread_of self.new.connection ≡ option_map unread_of self.old.connection }
         ensures none_kept { self.old.unsent ≡ []
@@ -453,6 +508,8 @@ impl<S: Sockets + Drop, N: PortNotes + Drop, W: Witness + Drop> Wire for Serving
             octets.new self.new.connection }
         ensures settings { self.new.settings ≡ self.old.settings }
         ensures waiting { self.new.waiting ≡ self.old.waiting }
+        ensures clock { self.old.clock ≤ self.new.clock }
+        ensures counted { self.new.counted ≡ self.old.counted }
     {
         let Some(served) = &mut self.served else {
             self.witness.see(RecordEntry::Read(Got::Fault), octets);
@@ -486,6 +543,8 @@ impl<S: Sockets + Drop, N: PortNotes + Drop, W: Witness + Drop> Wire for Serving
         ensures window { self.new.window ≡ self.old.window }
         ensures settings { self.new.settings ≡ self.old.settings }
         ensures waiting { self.new.waiting ≡ self.old.waiting }
+        ensures clock { self.old.clock ≤ self.new.clock }
+        ensures counted { self.new.counted ≡ self.old.counted }
     {
         let Some(served) = &mut self.served else {
             self.witness.see(RecordEntry::Write(Put::Fault), octets);
@@ -511,6 +570,9 @@ impl<S: Sockets + Drop, N: PortNotes + Drop, W: Witness + Drop> Port for Serving
         ensures few { self.new.waiting ≤ 8 }
         ensures settings { self.new.settings ≡ self.old.settings }
         ensures window { self.new.window ≡ self.old.window }
+        ensures clock { self.old.clock ≤ self.new.clock }
+        ensures counted { result ≡ Connect.Ready
+            → (self.old.clock ≤ self.new.counted) × (self.new.counted ≤ self.new.clock) }
     {
         self.let_go();
         self.admit();
@@ -533,22 +595,27 @@ impl<S: Sockets + Drop, N: PortNotes + Drop, W: Witness + Drop> Port for Serving
     /// Waits until the connection can be read, or written if octets are kept, at most 100 ms. A newcomer, or the end of
     /// a window whose octets were returned, ends the wait too. Accepts newcomers meanwhile. `Silent`: the connection is
     /// given up, or there is none. Without a connection it may wait 5 s.
+    #[tactic(auto, using(crate::proofs::ServedLemmas::has_waited))]
     fn wait(&mut self) -> Waited
         ensures reported { Reports (W.reported self.old.witness) (of_wait result ∷ [])
             (W.reported self.new.witness) }
-        ensures judged { HasWaited self.old.settings.silence
-            (keeps_octets self.old.unsent) self.old.connection self.new.connection result }
+        ensures judged { HasWaited self.old self.new result }
         ensures few { self.new.waiting ≤ 8 }
         ensures port { self.new
             ≡ record self.old {
               connection = self.new.connection;
               waiting = self.new.waiting;
               witness = self.new.witness;
+              clock = self.new.clock;
+              counted = self.new.counted;
+              found = self.new.found;
+              shown = self.new.shown;
             } }
     {
         let keeps = !self.unsent.is_empty();
         let (ready, milliseconds) = self.wait_and_admit(keeps);
-        let waited = self.judge(ready, milliseconds, keeps);
+        let is_claimed = self.is_claimed();
+        let waited = self.judge(ready, milliseconds, keeps, is_claimed);
         self.witness.see(RecordEntry::Wait(waited), &[]);
         waited
     }
@@ -569,7 +636,8 @@ impl<S: Sockets + Drop, N: PortNotes + Drop, W: Witness + Drop> Port for Serving
 
     /// Wakes all ports of the site, so that their workers ask whether the term is over.
     fn term_over(&mut self)
-        ensures port { self.new ≡ self.old }
+        ensures port { self.new ≡ record self.old { clock = self.new.clock } }
+        ensures clock { self.old.clock ≤ self.new.clock }
     {
         self.sockets.wake_all();
     }

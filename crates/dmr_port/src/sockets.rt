@@ -1,11 +1,12 @@
 //! What a port needs of the system: a listening socket, the connection that is served, the newcomers that wait, and a
 //! poll over all of them. No code here calls the system.
 
-ghost use Rattle.std.specs.Prelude.{◌≡◌, ℕ, ◌+◌, ◌<◌, Bool, true, false, List, [], ◌∷◌, Option};
-ghost use Rattle.std.specs.Prelude.{length, OnOk, OnErr};
+ghost use Rattle.std.specs.Prelude.{◌≡◌, ℕ, ◌+◌, ◌<◌, ◌≤◌, Bool, true, false, List, [], ◌∷◌, Option};
+ghost use Rattle.std.specs.Prelude.{length, IfSome, OnOk, OnErr};
 ghost use Rattle.dmr_wire.specs.Answers.{Answer, GotWithin, Opened, PutWithin, Reports, of_read};
 ghost use Rattle.dmr_wire.specs.Answers.{of_write};
-ghost use Rattle.dmr_port.specs.Sockets.{PeekedWithin, waiting_after};
+ghost use Rattle.dmr_port.specs.Sockets.{Found, PeekedWithin, found_after, shown_after_accept};
+ghost use Rattle.dmr_port.specs.Sockets.{shown_after_peek, shown_without, waiting_after};
 
 use dmr_wire::{Got, Put};
 use std::io;
@@ -61,12 +62,25 @@ pub trait Sockets {
     /// may end at any call. Sockets of the system know none.
     ghost log: { Self → Option (List Answer) };
 
+    /// The time of a clock, in milliseconds. Any call may let time pass.
+    ghost clock: { Self → ℕ };
+
+    /// What the latest wait found, and the time at its end, if that is known. Sockets of the system do not know it.
+    ghost found: { Self → Option Found };
+
+    /// The octets that the latest look at each newcomer found, oldest newcomer first, if they are known. Sockets of the
+    /// system do not know them.
+    ghost shown: { Self → Option (List (List ℕ)) };
+
     /// Accepts a connection, if one has come, as the newest newcomer. There must be fewer than nine.
     fn accept(&mut self) -> Accepted
         requires { waiting self.old < 9 }
         ensures waiting { waiting self.new ≡ waiting_after (waiting self.old) result }
         ensures connection { is_open self.new ≡ is_open self.old }
-        ensures log { log self.new ≡ log self.old };
+        ensures log { log self.new ≡ log self.old }
+        ensures clock { clock self.old ≤ clock self.new }
+        ensures found { found self.new ≡ found self.old }
+        ensures shown { shown self.new ≡ shown_after_accept result (shown self.old) };
 
     /// Looks at the first octets that a newcomer has sent, at most as many as the slice holds, and leaves them to be
     /// read. The rest of the slice then holds anything. There must be a newcomer at the place, and room in the slice.
@@ -76,7 +90,11 @@ pub trait Sockets {
         ensures within { PeekedWithin result (length octets.new) }
         ensures waiting { waiting self.new ≡ waiting self.old }
         ensures connection { is_open self.new ≡ is_open self.old }
-        ensures log { log self.new ≡ log self.old };
+        ensures log { log self.new ≡ log self.old }
+        ensures clock { clock self.old ≤ clock self.new }
+        ensures found { found self.new ≡ found self.old }
+        ensures shown { shown self.new
+            ≡ shown_after_peek place result octets.new (shown self.old) };
 
     /// Closes a newcomer and forgets it. Those after it move one place to the front. There must be a newcomer at the
     /// place.
@@ -84,7 +102,10 @@ pub trait Sockets {
         requires { place < waiting self.old }
         ensures waiting { waiting self.new + 1 ≡ waiting self.old }
         ensures connection { is_open self.new ≡ is_open self.old }
-        ensures log { log self.new ≡ log self.old };
+        ensures log { log self.new ≡ log self.old }
+        ensures clock { clock self.old ≤ clock self.new }
+        ensures found { found self.new ≡ found self.old }
+        ensures shown { shown self.new ≡ shown_without place (shown self.old) };
 
     /// Makes a newcomer the connection that is served. Those after it move one place to the front. On an error the
     /// newcomer cannot be polled; it is then closed, and there is no connection. There must be a newcomer at the place,
@@ -96,7 +117,10 @@ pub trait Sockets {
         ensures ok { OnOk result (is_open self.new ≡ true) }
         ensures err { OnErr result (is_open self.new ≡ false) }
         ensures opened { OnOk result (Reports (log self.old) (Opened ∷ []) (log self.new)) }
-        ensures log { OnErr result (log self.new ≡ log self.old) };
+        ensures log { OnErr result (log self.new ≡ log self.old) }
+        ensures clock { clock self.old ≤ clock self.new }
+        ensures found { found self.new ≡ found self.old }
+        ensures shown { shown self.new ≡ shown_without place (shown self.old) };
 
     /// Reads octets of the connection, at most as many as the slice holds, to its front. The rest of the slice then
     /// holds anything. There must be a connection, and room in the slice.
@@ -106,7 +130,10 @@ pub trait Sockets {
         ensures within { GotWithin result (length octets.new) }
         ensures waiting { waiting self.new ≡ waiting self.old }
         ensures connection { is_open self.new ≡ true }
-        ensures log { Reports (log self.old) (of_read result octets.new ∷ []) (log self.new) };
+        ensures log { Reports (log self.old) (of_read result octets.new ∷ []) (log self.new) }
+        ensures clock { clock self.old ≤ clock self.new }
+        ensures found { found self.new ≡ found self.old }
+        ensures shown { shown self.new ≡ shown self.old };
 
     /// Writes octets to the connection, from the front of the slice on, as many as it takes at once. There must be a
     /// connection, and an octet in the slice.
@@ -116,7 +143,10 @@ pub trait Sockets {
         ensures within { PutWithin result (length octets.now) }
         ensures waiting { waiting self.new ≡ waiting self.old }
         ensures connection { is_open self.new ≡ true }
-        ensures log { Reports (log self.old) (of_write result octets.now ∷ []) (log self.new) };
+        ensures log { Reports (log self.old) (of_write result octets.now ∷ []) (log self.new) }
+        ensures clock { clock self.old ≤ clock self.new }
+        ensures found { found self.new ≡ found self.old }
+        ensures shown { shown self.new ≡ shown self.old };
 
     /// Closes the connection, which there must be. Ends the output first, and reads the octets that came and were not
     /// read. A close with unread octets would reset the connection, and the other side might then lose the last octets
@@ -125,13 +155,20 @@ pub trait Sockets {
         requires { is_open self.old ≡ true }
         ensures waiting { waiting self.new ≡ waiting self.old }
         ensures connection { is_open self.new ≡ false }
-        ensures log { log self.new ≡ log self.old };
+        ensures log { log self.new ≡ log self.old }
+        ensures clock { clock self.old ≤ clock self.new }
+        ensures found { found self.new ≡ found self.old }
+        ensures shown { shown self.new ≡ shown self.old };
 
-    /// Returns the milliseconds of a clock that does not go back.
+    /// Returns the time of the clock, in milliseconds. It does not go back.
     fn now(&mut self) -> u64
         ensures waiting { waiting self.new ≡ waiting self.old }
         ensures connection { is_open self.new ≡ is_open self.old }
-        ensures log { log self.new ≡ log self.old };
+        ensures log { log self.new ≡ log self.old }
+        ensures time { result ≡ clock self.new }
+        ensures clock { clock self.old ≤ clock self.new }
+        ensures found { found self.new ≡ found self.old }
+        ensures shown { shown self.new ≡ shown self.old };
 
     /// Waits until something is ready, at most this many milliseconds. If `sends`, the connection is ready when it can
     /// be written, and otherwise when it can be read. If the system cannot wait, this returns at once with nothing
@@ -139,7 +176,10 @@ pub trait Sockets {
     fn wait(&mut self, milliseconds: u64, sends: bool) -> Ready
         ensures waiting { waiting self.new ≡ waiting self.old }
         ensures connection { is_open self.new ≡ is_open self.old }
-        ensures log { log self.new ≡ log self.old };
+        ensures log { log self.new ≡ log self.old }
+        ensures clock { clock self.old ≤ clock self.new }
+        ensures found { found self.new ≡ found_after result (clock self.new) (found self.old) }
+        ensures shown { shown self.new ≡ shown self.old };
 
     /// Ends the wait that is under way at any port of the site, or else its next one, with nothing ready, if the
     /// sockets can do that. By default it does nothing.
@@ -147,5 +187,11 @@ pub trait Sockets {
         ensures waiting { Self.waiting self.new ≡ Self.waiting self.old }
         ensures connection { Self.is_open self.new ≡ Self.is_open self.old }
         ensures log { Self.log self.new ≡ Self.log self.old }
+        ensures clock { Self.clock self.old ≤ Self.clock self.new }
+        ensures found { Self.found self.new ≡ Self.found self.old }
+        ensures shown { Self.shown self.new ≡ Self.shown self.old }
     {}
+
+    /// Octets are known of all newcomers, or of none.
+    ghost shows_all: { (s : Self) → IfSome (shown s) (λ octets. length octets ≡ waiting s) };
 }

@@ -89,6 +89,9 @@ impl Unsent {
             (S.log sockets.new) self.new }
         ensures connection { S.is_open sockets.new ≡ true }
         ensures waiting { S.waiting sockets.new ≡ S.waiting sockets.old }
+        ensures clock { S.clock sockets.old ≤ S.clock sockets.new }
+        ensures found { S.found sockets.new ≡ S.found sockets.old }
+        ensures shown { S.shown sockets.new ≡ S.shown sockets.old }
     {
         if self.is_empty() {
             match sockets.write(octets) {
@@ -109,6 +112,9 @@ impl Unsent {
         ensures part { result ≡ Sent.Part → self.new ≢ [] }
         ensures connection { S.is_open sockets.new ≡ true }
         ensures waiting { S.waiting sockets.new ≡ S.waiting sockets.old }
+        ensures clock { S.clock sockets.old ≤ S.clock sockets.new }
+        ensures found { S.found sockets.new ≡ S.found sockets.old }
+        ensures shown { S.shown sockets.new ≡ S.shown sockets.old }
     {
         while !self.is_empty() {
             match self.send_once(sockets) {
@@ -134,6 +140,9 @@ impl Unsent {
         ensures left { length self.new + count_put result ≡ length self.old }
         ensures connection { S.is_open sockets.new ≡ true }
         ensures waiting { S.waiting sockets.new ≡ S.waiting sockets.old }
+        ensures clock { S.clock sockets.old ≤ S.clock sockets.new }
+        ensures found { S.found sockets.new ≡ S.found sockets.old }
+        ensures shown { S.shown sockets.new ≡ S.shown sockets.old }
     {
         let put = sockets.write(self.oldest());
         if let Put::Octets(count) = put {

@@ -247,6 +247,7 @@ impl<'a, R: Clock> MioSockets<'a, R> {
         ensures newcomers { vec_len self.new.newcomers
             ≡ waiting_after (vec_len self.old.newcomers) result }
         ensures connection { self.new.connection ≡ self.old.connection }
+        ensures clock { self.new.now ≡ self.old.now }
     {
         self.backlog = Backlog::Waiting;
         let polled = self
@@ -267,6 +268,7 @@ impl<'a, R: Clock> MioSockets<'a, R> {
         ensures none { (count : ℕ) → waiting_after count result ≡ count }
         ensures newcomers { vec_len self.new.newcomers ≡ vec_len self.old.newcomers }
         ensures connection { self.new.connection ≡ self.old.connection }
+        ensures clock { self.new.now ≡ self.old.now }
     {
         match error.kind() {
             ErrorKind::WouldBlock => {
@@ -290,6 +292,7 @@ impl<'a, R: Clock> MioSockets<'a, R> {
     fn poll_connection(&mut self, sends: bool) -> bool
         ensures newcomers { vec_len self.new.newcomers ≡ vec_len self.old.newcomers }
         ensures connection { self.new.connection ≡ self.old.connection }
+        ensures clock { self.new.now ≡ self.old.now }
     {
         let Some(stream) = &mut self.connection else {
             return true;
@@ -311,6 +314,7 @@ impl<'a, R: Clock> MioSockets<'a, R> {
     fn read_clock(&mut self)
         ensures newcomers { vec_len self.new.newcomers ≡ vec_len self.old.newcomers }
         ensures connection { self.new.connection ≡ self.old.connection }
+        ensures clock { self.old.now ≤ self.new.now }
     {
         if let Some(now) = milliseconds(self.rt) {
             self.now = self.now.max(now);
@@ -322,6 +326,7 @@ impl<'a, R: Clock> MioSockets<'a, R> {
     fn wait_for_events(&mut self, milliseconds: u64) -> (Ready, bool)
         ensures newcomers { vec_len self.new.newcomers ≡ vec_len self.old.newcomers }
         ensures connection { self.new.connection ≡ self.old.connection }
+        ensures clock { self.new.now ≡ self.old.now }
     {
         let most = Duration::from_millis(milliseconds);
         match self.poll.poll(&mut self.events, Some(most)) {
@@ -343,6 +348,14 @@ impl<R: Clock> Sockets for MioSockets<'_, R> {
     ghost waiting = { λ s. vec_len s.newcomers };
 
     ghost log = { λ s. None };
+
+    ghost clock = { λ s. s.now };
+
+    ghost found = { λ s. None };
+
+    ghost shown = { λ s. None };
+
+    ghost shows_all = { λ s. tt };
 
     fn accept(&mut self) -> Accepted {
         match self.listener.accept() {

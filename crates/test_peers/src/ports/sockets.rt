@@ -1,7 +1,9 @@
 //! Sockets in memory: peers that do what a script says, when it says it.
 
-ghost use Rattle.std.specs.Prelude.{◌≡◌, ◌<◌, ◌≤◌, [], None, Some, IfOk, length};
+ghost use Rattle.std.specs.Prelude.{◌≡◌, ◌<◌, ◌≤◌, [], None, Some, IfOk, length, map, slice_set};
+ghost use Rattle.std.specs.Prelude.{take};
 ghost use Rattle.std.specs.Option.{is_some};
+ghost use Rattle.std.proofs.lemmas.List.{length-map};
 ghost use Rattle.arrayvec.specs.ArrayVec.{array_vec_len};
 ghost use Rattle.dmr_wire.specs.Answers.{GotWithin, PutWithin};
 
@@ -28,6 +30,9 @@ const OTHER: &[u8] = &[0x01, 0x04, 0x01, 0x01, 0x00, 0x01];
 /// POLL.
 const POLL: &[u8] = &[0x03, 0x00];
 
+/// The most octets of a newcomer that a look finds.
+const MOST_SHOWN: usize = 8;
+
 /// The other side of a connection.
 #[derive(Debug, Drop)]
 struct Peer {
@@ -47,6 +52,45 @@ impl Peer {
     }
 }
 
+/// A newcomer.
+#[derive(Clone, Copy, Debug)]
+struct Newcomer {
+    /// The number of its peer.
+    peer: usize,
+    /// The octets that the latest look at it found are the first of these, and their number.
+    first: [u8; MOST_SHOWN],
+    shown: usize,
+}
+
+impl Newcomer {
+    /// The newcomer of a peer, at which nobody has looked.
+    fn new(peer: usize) -> Newcomer
+        ensures peer { result.peer ≡ peer }
+        ensures shown { result.shown ≡ 0 }
+    {
+        Newcomer {
+            peer,
+            first: [0; MOST_SHOWN],
+            shown: 0,
+        }
+    }
+}
+
+impl Default for Newcomer {
+    fn default() -> Newcomer {
+        Newcomer::new(0)
+    }
+}
+
+/// What the latest wait found.
+#[derive(Clone, Copy, Debug)]
+struct Last {
+    /// What it found.
+    ready: Ready,
+    /// The time at its end.
+    ended: u64,
+}
+
 /// A listening socket, its connections, and a clock that goes on in waits, up to `until`. As with edge-triggered
 /// sockets of the system, a wait reports a change once.
 #[derive(Debug, Drop)]
@@ -57,7 +101,7 @@ pub struct MemorySockets {
     next: usize,
     peers: Vec<Peer>,
     backlog: VecDeque<usize>,
-    newcomers: ArrayVec<usize, 9>,
+    newcomers: ArrayVec<Newcomer, 9>,
     connection: Option<usize>,
     /// What the next wait reports, for reading and for writing.
     reads: Ready,
@@ -67,6 +111,7 @@ pub struct MemorySockets {
     interrupts: [bool; 3],
     /// The number of waits that end at once.
     storm: usize,
+    last: Last,
     /// The numbers of reads and of writes that the port asked for.
     pub asked: (usize, usize),
     /// The connections that the port took, and the answers to its reads and writes.
@@ -117,6 +162,10 @@ impl MemorySockets {
             refuses: false,
             interrupts: [false; 3],
             storm: 0,
+            last: Last {
+                ready: NOTHING,
+                ended: 0,
+            },
             asked: (0, 0),
             log: Answers::new(alloc),
         })
@@ -128,6 +177,8 @@ impl MemorySockets {
         ensures connection { self.new.connection ≡ self.old.connection }
         ensures newcomers { self.new.newcomers ≡ self.old.newcomers }
         ensures log { self.new.log ≡ self.old.log }
+        ensures clock { self.old.clock ≤ self.new.clock }
+        ensures last { self.new.last ≡ self.old.last }
     {
         let interrupted = self.interrupts[kind];
         self.interrupts[kind] = false;
@@ -139,6 +190,8 @@ impl MemorySockets {
         ensures connection { self.new.connection ≡ self.old.connection }
         ensures newcomers { self.new.newcomers ≡ self.old.newcomers }
         ensures log { self.new.log ≡ self.old.log }
+        ensures clock { self.old.clock ≤ self.new.clock }
+        ensures last { self.new.last ≡ self.old.last }
     {
         if self.connection == Some(peer) {
             self.reads.connection = true;
@@ -156,6 +209,8 @@ impl MemorySockets {
         ensures connection { self.new.connection ≡ self.old.connection }
         ensures newcomers { self.new.newcomers ≡ self.old.newcomers }
         ensures log { self.new.log ≡ self.old.log }
+        ensures clock { self.old.clock ≤ self.new.clock }
+        ensures last { self.new.last ≡ self.old.last }
     {
         if let Some(peer) = self.peers.get_mut(peer) {
             let _ = peer.octets.extend_from_slice(octets);
@@ -168,6 +223,8 @@ impl MemorySockets {
         ensures connection { self.new.connection ≡ self.old.connection }
         ensures newcomers { self.new.newcomers ≡ self.old.newcomers }
         ensures log { self.new.log ≡ self.old.log }
+        ensures clock { self.old.clock ≤ self.new.clock }
+        ensures last { self.new.last ≡ self.old.last }
     {
         let peer = event.peer;
         match event.deed {
@@ -216,6 +273,8 @@ impl MemorySockets {
         ensures connection { self.new.connection ≡ self.old.connection }
         ensures newcomers { self.new.newcomers ≡ self.old.newcomers }
         ensures log { self.new.log ≡ self.old.log }
+        ensures clock { self.old.clock ≤ self.new.clock }
+        ensures last { self.new.last ≡ self.old.last }
     {
         for _ in self.next..self.events.len() {
             let Some(event) = self.events.get(self.next).copied() else {
@@ -236,6 +295,8 @@ impl MemorySockets {
         ensures connection { self.new.connection ≡ self.old.connection }
         ensures newcomers { self.new.newcomers ≡ self.old.newcomers }
         ensures log { self.new.log ≡ self.old.log }
+        ensures clock { self.old.clock ≤ self.new.clock }
+        ensures last { self.new.last ≡ self.old.last }
     {
         self.asked.0 = self.asked.0.saturating_add(1);
         if self.is_interrupted(1) {
@@ -265,6 +326,8 @@ impl MemorySockets {
         ensures connection { self.new.connection ≡ self.old.connection }
         ensures newcomers { self.new.newcomers ≡ self.old.newcomers }
         ensures log { self.new.log ≡ self.old.log }
+        ensures clock { self.old.clock ≤ self.new.clock }
+        ensures last { self.new.last ≡ self.old.last }
     {
         self.asked.1 = self.asked.1.saturating_add(1);
         if self.is_interrupted(2) {
@@ -292,6 +355,8 @@ impl MemorySockets {
         ensures connection { self.new.connection ≡ self.old.connection }
         ensures newcomers { self.new.newcomers ≡ self.old.newcomers }
         ensures log { self.new.log ≡ self.old.log }
+        ensures clock { self.old.clock ≤ self.new.clock }
+        ensures last { self.new.last ≡ self.old.last }
     {
         let ready = Ready {
             connection: if self.sends {
@@ -306,114 +371,28 @@ impl MemorySockets {
         self.writes = false;
         ready
     }
-}
 
-/// Whether a wait reports anything.
-fn is_any(ready: Ready) -> bool {
-    ready.connection || ready.input_closed || ready.newcomers
-}
-
-/// The address of a peer.
-fn address_of(peer: usize) -> SocketAddr {
-    SocketAddr::new(
-        IpAddr::V4(Ipv4Addr::new(10, 0, 0, 1)),
-        (peer % 65_536) as u16,
-    )
-}
-
-/// Copies octets to the front of a slice, as many as it holds, and returns their number.
-fn copy_front(from: &[u8], to: &mut [u8]) -> usize
-    ensures from { result ≤ length from.now }
-    ensures to { result ≤ length to.new }
-    ensures some { 0 < length from.now → 0 < length to.old → 0 < result }
-{
-    let count = from.len().min(to.len());
-    to[..count].copy_from_slice(&from[..count]);
-    count
-}
-
-impl Sockets for MemorySockets {
-    ghost is_open = { λ s. is_some s.connection };
-
-    ghost waiting = { λ s. array_vec_len s.newcomers };
-
-    ghost log = { λ s. s.log };
-
-    fn accept(&mut self) -> Accepted {
-        self.apply_due();
-        if self.is_interrupted(0) {
-            return Accepted::Interrupted;
-        }
-        if self.backlog.is_empty() {
-            return Accepted::None;
-        }
-        if self.refuses {
-            return Accepted::Refused(io::Error::from_raw_os_error(TOO_MANY_OPEN_FILES));
-        }
-        match self.backlog.pop_front() {
-            Some(peer) => {
-                self.newcomers.push(peer);
-                Accepted::Came(address_of(peer))
-            }
-            None => Accepted::None,
-        }
+    /// Replaces what is known of the newcomer at a place.
+    fn set_newcomer(&mut self, place: usize, newcomer: Newcomer)
+        requires { place < array_vec_len self.old.newcomers }
+        ensures set { self.new.newcomers.items
+            ≡ slice_set self.old.newcomers.items place newcomer }
+        ensures len { array_vec_len self.new.newcomers ≡ array_vec_len self.old.newcomers }
+        ensures connection { self.new.connection ≡ self.old.connection }
+        ensures log { self.new.log ≡ self.old.log }
+        ensures clock { self.new.clock ≡ self.old.clock }
+        ensures last { self.new.last ≡ self.old.last }
+    {
+        self.newcomers.as_mut_slice()[place] = newcomer;
     }
 
-    fn peek(&mut self, place: usize, octets: &mut [u8]) -> Peeked {
-        let number = self.newcomers.as_slice()[place];
-        let Some(peer) = self.peers.get(number) else {
-            return Peeked::Ended;
-        };
-        if peer.has_reset {
-            return Peeked::Ended;
-        }
-        let unread = peer.unread();
-        if !unread.is_empty() {
-            return Peeked::Octets(copy_front(unread, octets));
-        }
-        if peer.has_ended {
-            Peeked::Ended
-        } else {
-            Peeked::Nothing
-        }
-    }
-
-    fn refuse(&mut self, place: usize) {
-        self.newcomers.remove(place);
-    }
-
-    fn take(&mut self, place: usize) -> io::Result<()> {
-        let peer = self.newcomers.remove(place);
-        self.connection = Some(peer);
-        self.note_change(peer, false);
-        self.log.add(RecordEntry::Connect(Connect::Ready), &[]);
-        Ok(())
-    }
-
-    fn read(&mut self, octets: &mut [u8]) -> Got {
-        let got = self.answer_read(octets);
-        self.log.add(RecordEntry::Read(got), octets);
-        got
-    }
-
-    fn write(&mut self, octets: &[u8]) -> Put {
-        let put = self.answer_write(octets);
-        self.log.add(RecordEntry::Write(put), octets);
-        put
-    }
-
-    fn close(&mut self) {
-        self.connection = None;
-        self.reads.connection = false;
-        self.reads.input_closed = false;
-        self.writes = false;
-    }
-
-    fn now(&mut self) -> u64 {
-        self.clock
-    }
-
-    fn wait(&mut self, milliseconds: u64, sends: bool) -> Ready {
+    /// Waits until something is ready, at most this many milliseconds, and returns what is.
+    fn find(&mut self, milliseconds: u64, sends: bool) -> Ready
+        ensures connection { self.new.connection ≡ self.old.connection }
+        ensures newcomers { self.new.newcomers ≡ self.old.newcomers }
+        ensures log { self.new.log ≡ self.old.log }
+        ensures clock { self.old.clock ≤ self.new.clock }
+    {
         if sends != self.sends {
             // Another interest: the system reports again what is ready.
             self.sends = sends;
@@ -444,5 +423,135 @@ impl Sockets for MemorySockets {
         self.clock = self.clock.max(next);
         self.apply_due();
         self.take_ready()
+    }
+}
+
+/// Whether a wait reports anything.
+fn is_any(ready: Ready) -> bool {
+    ready.connection || ready.input_closed || ready.newcomers
+}
+
+/// The address of a peer.
+fn address_of(peer: usize) -> SocketAddr {
+    SocketAddr::new(
+        IpAddr::V4(Ipv4Addr::new(10, 0, 0, 1)),
+        (peer % 65_536) as u16,
+    )
+}
+
+/// Copies octets to the front of a slice, as many as it holds, and returns their number.
+fn copy_front(from: &[u8], to: &mut [u8]) -> usize
+    ensures copied { take result to.new ≡ take result from.now }
+    ensures len { length to.new ≡ length to.old }
+    ensures from { result ≤ length from.now }
+    ensures to { result ≤ length to.new }
+    ensures some { 0 < length from.now → 0 < length to.old → 0 < result }
+{
+    let count = from.len().min(to.len());
+    to[..count].copy_from_slice(&from[..count]);
+    count
+}
+
+impl Sockets for MemorySockets {
+    ghost is_open = { λ s. is_some s.connection };
+
+    ghost waiting = { λ s. array_vec_len s.newcomers };
+
+    ghost log = { λ s. s.log };
+
+    ghost clock = { λ s. s.clock };
+
+    ghost found = { λ s. Some (record { ready = s.last.ready; ended = s.last.ended }) };
+
+    ghost shown = { λ s. Some (map (λ n. take n.shown n.first) s.newcomers.items) };
+
+    ghost shows_all = { λ s. length-map s.newcomers.items (λ n. take n.shown n.first) };
+
+    fn accept(&mut self) -> Accepted {
+        self.apply_due();
+        if self.is_interrupted(0) {
+            return Accepted::Interrupted;
+        }
+        if self.backlog.is_empty() {
+            return Accepted::None;
+        }
+        if self.refuses {
+            return Accepted::Refused(io::Error::from_raw_os_error(TOO_MANY_OPEN_FILES));
+        }
+        match self.backlog.pop_front() {
+            Some(peer) => {
+                self.newcomers.push(Newcomer::new(peer));
+                Accepted::Came(address_of(peer))
+            }
+            None => Accepted::None,
+        }
+    }
+
+    fn peek(&mut self, place: usize, octets: &mut [u8]) -> Peeked {
+        let mut newcomer = self.newcomers.as_slice()[place];
+        let Some(peer) = self.peers.get(newcomer.peer) else {
+            return Peeked::Ended;
+        };
+        if peer.has_reset {
+            return Peeked::Ended;
+        }
+        let unread = peer.unread();
+        if unread.is_empty() {
+            return if peer.has_ended {
+                Peeked::Ended
+            } else {
+                Peeked::Nothing
+            };
+        }
+        let count = copy_front(unread, octets);
+        newcomer.shown = copy_front(&octets[..count], &mut newcomer.first);
+        self.set_newcomer(place, newcomer);
+        Peeked::Octets(newcomer.shown)
+    }
+
+    #[tactic(auto, using(crate::proofs::ShownLemmas::map_removed))]
+    fn refuse(&mut self, place: usize) {
+        self.newcomers.remove(place);
+    }
+
+    #[tactic(auto, using(crate::proofs::ShownLemmas::map_removed))]
+    fn take(&mut self, place: usize) -> io::Result<()> {
+        let peer = self.newcomers.remove(place).peer;
+        self.connection = Some(peer);
+        self.note_change(peer, false);
+        self.log.add(RecordEntry::Connect(Connect::Ready), &[]);
+        Ok(())
+    }
+
+    fn read(&mut self, octets: &mut [u8]) -> Got {
+        let got = self.answer_read(octets);
+        self.log.add(RecordEntry::Read(got), octets);
+        got
+    }
+
+    fn write(&mut self, octets: &[u8]) -> Put {
+        let put = self.answer_write(octets);
+        self.log.add(RecordEntry::Write(put), octets);
+        put
+    }
+
+    fn close(&mut self) {
+        self.connection = None;
+        self.reads.connection = false;
+        self.reads.input_closed = false;
+        self.writes = false;
+    }
+
+    fn now(&mut self) -> u64 {
+        self.clock
+    }
+
+    fn wait(&mut self, milliseconds: u64, sends: bool) -> Ready {
+        let ready = self.find(milliseconds, sends);
+        self.last = Last {
+            ready,
+            ended: self.clock,
+        };
+        ready
     }
 }

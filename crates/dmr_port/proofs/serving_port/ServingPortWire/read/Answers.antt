@@ -6,6 +6,7 @@ use Rattle.dmr_port.specs.PortState.{connection_of, first_if_served}
 use Rattle.dmr_port.specs.Settings.{is_carrier}
 use Rattle.dmr_port.specs.Unsent.{ReadsAfterSending}
 use Rattle.dmr_port.proofs.ReadingLemmas.{reads_unserved}
+use Rattle.dmr_port.proofs.NewcomersLemmas.{known_at}
 use Rattle.dmr_port.proofs.RecordLemmas.{agrees_quiet, agrees_read, agrees_served}
 use Rattle.dmr_port.proofs.serving_port.ServingPortWire.read.Goals as goal
 
@@ -20,6 +21,7 @@ invariant_of-self g c =
       i.4,
       agrees_quiet (is_carrier p.settings.whose) (first_if_served (option_map connection_of p.served)) p.unsent (g.S.Sockets.log p.sockets)
           (g.W.Witness.reported p.witness) (g.W.Witness.reported c.see.new.self) ReadFailed (λ traffic. refl) c.see.ensures i.5,
+      i.6,
     )
 
 pub returns-in_default-clause-passes : goal.returns-in_default-clause-passes
@@ -43,4 +45,5 @@ invariant_of-self-2 g c =
       agrees_read (is_carrier p.settings.whose) s.first.octets.items r.new.served.first.octets.items p.unsent r.new.unsent r.new.octets (log p.sockets) (log r.new.sockets)
           (told p.witness) (told c.see-2.new.self) r.result (subst P c.is_carrier-is_carrier.ensures r.ensures.passes) c.see-2.ensures
           (agrees_served (is_carrier p.settings.whose) p.served s p.unsent (log p.sockets) (told p.witness) c.in-Some.is i.5),
+      known_at p.settings p.room.newcomers.items (g.S.Sockets.shown p.sockets) (g.S.Sockets.shown r.new.sockets) r.ensures.shown i.6,
     )

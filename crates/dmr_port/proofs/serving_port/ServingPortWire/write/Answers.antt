@@ -7,6 +7,7 @@ use Rattle.dmr_port.specs.Record.{Agrees}
 use Rattle.dmr_port.specs.Settings.{is_carrier}
 use Rattle.dmr_port.specs.Sockets.{taken_by}
 use Rattle.dmr_port.specs.Unsent.{PassesOctets}
+use Rattle.dmr_port.proofs.NewcomersLemmas.{known_at}
 use Rattle.dmr_port.proofs.RecordLemmas.{agrees_quiet, agrees_served, agrees_written}
 use Rattle.dmr_port.proofs.UnsentLemmas.{answered_as_taken, first_after_write, passes_nothing}
 use Rattle.dmr_port.proofs.serving_port.ServingPortWire.write.Goals as goal
@@ -22,6 +23,7 @@ invariant_of-self g c =
       i.4,
       agrees_quiet (is_carrier p.settings.whose) (first_if_served (option_map connection_of p.served)) p.unsent (g.S.Sockets.log p.sockets)
           (g.W.Witness.reported p.witness) (g.W.Witness.reported c.see.new.self) WriteFailed (λ traffic. refl) c.see.ensures i.5,
+      i.6,
     )
 
 pub returns-in_default-clause-passes : goal.returns-in_default-clause-passes
@@ -51,4 +53,5 @@ invariant_of-self-2 g c =
       subst Q (sym first)
           (agrees_written carrier s.first.octets.items p.unsent w.new.self (log p.sockets) (log w.new.sockets) (told p.witness) (told c.see-2.new.self) a.result octets
           (subst P taken w.ensures.passes) c.see-2.ensures (agrees_served carrier p.served s p.unsent (log p.sockets) (told p.witness) c.in-Some.is i.5)),
+      known_at p.settings p.room.newcomers.items (g.S.Sockets.shown p.sockets) (g.S.Sockets.shown w.new.sockets) w.ensures.shown i.6,
     )

@@ -35,7 +35,7 @@ fn lines(rt: HostRuntime) {
     assert_eq!(&rt; cutter.feed_byte(b'\n'), LineStep::Line(line));
 }
 
-/// A site has never so many of anything.
+/// The greatest numbers, which no site reaches.
 #[test]
 fn the_longest_status(rt: HostRuntime) {
     let greatest = Reply::Status {

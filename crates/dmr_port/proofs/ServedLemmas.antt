@@ -33,29 +33,31 @@ is_given_up silence ms keeps is_claimed ready old new cause after some = record 
 }
 
 -- what a wait of the sockets found, which began after this time, and was counted after its end
-pub is_finding : (before ended counted : ℕ) (ready : Ready) (was found : Option Found) → found ≡ found_after ready ended was → before ≤ ended → ended ≤ counted → IsFinding before ready counted found
-is_finding before ended counted ready was found is began counts = record { finding = λ f some. at was f (sym is ∙ some) }
+pub is_finding : (before ended counted : ℕ) (ready : Ready) (sends : Bool) (was found : Option Found) → found ≡ found_after ready sends ended was → before ≤ ended → ended ≤ counted
+    → IsFinding before ready sends counted found
+is_finding before ended counted ready sends was found is began counts = record { finding = λ f some. at was f (sym is ∙ some) }
   where
-    at : (was : Option Found) (f : Found) → found_after ready ended was ≡ Some f → (before ≤ f.ended) × (f.ended ≤ counted) × (f.ready ≡ ready)
+    at : (was : Option Found) (f : Found) → found_after ready sends ended was ≡ Some f → (before ≤ f.ended) × (f.ended ≤ counted) × (f.ready ≡ ready) × (f.sends ≡ sends)
     at None f e = absurd (cc)
     at (Some w) f e =
-        let same : f ≡ record { ready = ready; ended = ended } = cc in
+        let same : f ≡ record { ready = ready; sends = sends; ended = ended } = cc in
         let time : f.ended ≡ ended = ap (λ (x : Found). x.ended) same in
-        (omega (arith, time, began), omega (arith, time, counts), ap (λ (x : Found). x.ready) same)
+        (omega (arith, time, began), omega (arith, time, counts), ap (λ (x : Found). x.ready) same, ap (λ (x : Found). x.sends) same)
 
 -- a wait of a port, of its parts
 pub has_waited : {W : Type 0} (old new : PortState W) (ready : Ready) (milliseconds : ℕ) (keeps is_claimed : Bool) (result : Waited) → old.clock ≤ new.counted → new.counted ≤ new.clock
-    → IsFinding old.clock ready new.counted new.found → IsClaimedAs old.settings new.shown is_claimed → milliseconds ≡ min (new.counted - old.counted) 100 → keeps ≡ keeps_octets old.unsent
+    → IsFinding old.clock ready keeps new.counted new.found → IsClaimedAs old.settings new.shown is_claimed → milliseconds ≡ min (new.counted - old.counted) 100 → keeps ≡ keeps_octets old.unsent
     → HasWaitedIf old.settings.silence milliseconds keeps ready.connection is_claimed old.connection new.connection result → HasWaited old new result
 has_waited old new ready milliseconds keeps is_claimed result after before finding claim counts is judged =
     let P : ℕ → Type 0 = λ n. HasWaitedIf old.settings.silence n (keeps_octets old.unsent) ready.connection is_claimed old.connection new.connection result in
     let Q : Bool → Type 0 = λ k. HasWaitedIf old.settings.silence milliseconds k ready.connection is_claimed old.connection new.connection result in
+    let R : Bool → Type 0 = λ k. IsFinding old.clock ready k new.counted new.found in
     record {
       ready = ready;
       is_claimed = is_claimed;
       after = after;
       before = before;
-      finding = finding;
+      finding = subst R is finding;
       claim = claim;
       judged = subst P counts (subst Q is judged);
     }

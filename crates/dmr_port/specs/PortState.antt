@@ -200,11 +200,11 @@ HasWaitedIf silence milliseconds keeps ready is_claimed (Some old) (Some new) re
     HasWaitedFor silence milliseconds keeps ready is_claimed old new result
 HasWaitedIf silence milliseconds keeps ready is_claimed old new result = ⊥
 
--- the sockets' latest wait began after this time and found this. It ended before waits were counted up to `counted`
-pub record IsFinding (before : ℕ) (ready : Ready) (counted : ℕ) (found : Option Found)
-    : Type 0 where
+-- the sockets' latest wait, for sending or not, found this, if that is known. It ended between these times
+pub record IsFinding (before : ℕ) (ready : Ready) (sends : Bool) (counted : ℕ)
+    (found : Option Found) : Type 0 where
   pub finding : (f : Found) → found ≡ Some f
-      → (before ≤ f.ended) × (f.ended ≤ counted) × (f.ready ≡ ready)
+      → (before ≤ f.ended) × (f.ended ≤ counted) × (f.ready ≡ ready) × (f.sends ≡ sends)
 
 -- a wait of a port. It counts as the time since waits were last counted, at most as 100 ms
 pub record HasWaited {W : Type 0} (old new : PortState W) (result : Waited) : Type 0 where
@@ -212,7 +212,7 @@ pub record HasWaited {W : Type 0} (old new : PortState W) (result : Waited) : Ty
   pub is_claimed : Bool
   pub after : old.clock ≤ new.counted
   pub before : new.counted ≤ new.clock
-  pub finding : IsFinding old.clock ready new.counted new.found
+  pub finding : IsFinding old.clock ready (keeps_octets old.unsent) new.counted new.found
   pub claim : IsClaimedAs old.settings new.shown is_claimed
   pub judged : HasWaitedIf old.settings.silence (min (new.counted - old.counted) 100)
       (keeps_octets old.unsent) ready.connection is_claimed old.connection new.connection result

@@ -1,7 +1,7 @@
 -- What the calls of a port's sockets do to the connection that is served and to the newcomers that wait, and what they
 -- find.
-use Rattle.std.specs.Prelude.{ℕ, ◌+◌, ◌≤◌, ◌++◌, List, [], ◌∷◌, take, remove, slice_set, Option}
-use Rattle.std.specs.Prelude.{option_map}
+use Rattle.std.specs.Prelude.{ℕ, ◌+◌, ◌≤◌, ◌++◌, Bool, List, [], ◌∷◌, take, remove, slice_set}
+use Rattle.std.specs.Prelude.{Option, option_map}
 use Rattle.dmr_wire.specs.declared.wire.Put.{Put}
 use Rattle.dmr_wire.specs.declared.wire.Put.TheVariants as put
 use Rattle.dmr_port.specs.declared.sockets.Accepted.{Accepted}
@@ -25,15 +25,16 @@ abbrev pub taken_by : Put → List ℕ → List ℕ
 taken_by (put.Octets n) octets = take n octets
 taken_by other octets = []
 
--- what a wait found, and the time at its end
+-- what a wait found, whether it was for sending, and the time at its end
 pub record Found : Type 0 where
   pub ready : Ready
+  pub sends : Bool
   pub ended : ℕ
 
 -- what the latest wait found, after one more
-abbrev pub found_after : Ready → ℕ → Option Found → Option Found
-found_after ready ended found =
-    option_map (λ (_ : Found). record { ready = ready; ended = ended }) found
+abbrev pub found_after : Ready → Bool → ℕ → Option Found → Option Found
+found_after ready sends ended found =
+    option_map (λ (_ : Found). record { ready = ready; sends = sends; ended = ended }) found
 
 -- the octets that each newcomer has shown, after an accept: the newest none
 abbrev pub shown_after_accept : Accepted → Option (List (List ℕ)) → Option (List (List ℕ))

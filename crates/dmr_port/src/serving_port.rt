@@ -408,7 +408,7 @@ impl<S: Sockets + Drop, N: PortNotes + Drop, W: Witness + Drop> ServingPort<S, N
         ensures milliseconds { result.1 ≡ min (self.new.counted - self.old.counted) 100 }
         ensures after { self.old.clock ≤ self.new.counted }
         ensures before { self.new.counted ≤ self.new.clock }
-        ensures finding { IsFinding self.old.clock result.0 self.new.counted self.new.found }
+        ensures finding { IsFinding self.old.clock result.0 keeps self.new.counted self.new.found }
         ensures port { self.new ≡ record self.old {
           waiting = self.new.waiting;
           clock = self.new.clock;

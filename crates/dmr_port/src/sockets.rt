@@ -178,7 +178,8 @@ pub trait Sockets {
         ensures connection { is_open self.new ≡ is_open self.old }
         ensures log { log self.new ≡ log self.old }
         ensures clock { clock self.old ≤ clock self.new }
-        ensures found { found self.new ≡ found_after result (clock self.new) (found self.old) }
+        ensures found { found self.new
+            ≡ found_after result sends (clock self.new) (found self.old) }
         ensures shown { shown self.new ≡ shown self.old };
 
     /// Ends the wait that is under way at any port of the site, or else its next one, with nothing ready, if the

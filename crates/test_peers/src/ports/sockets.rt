@@ -87,6 +87,8 @@ impl Default for Newcomer {
 struct Last {
     /// What it found.
     ready: Ready,
+    /// Whether it was for sending.
+    sends: bool,
     /// The time at its end.
     ended: u64,
 }
@@ -164,6 +166,7 @@ impl MemorySockets {
             storm: 0,
             last: Last {
                 ready: NOTHING,
+                sends: false,
                 ended: 0,
             },
             asked: (0, 0),
@@ -461,7 +464,11 @@ impl Sockets for MemorySockets {
 
     ghost clock = { λ s. s.clock };
 
-    ghost found = { λ s. Some (record { ready = s.last.ready; ended = s.last.ended }) };
+    ghost found = { λ s. Some (record {
+      ready = s.last.ready;
+      sends = s.last.sends;
+      ended = s.last.ended;
+    }) };
 
     ghost shown = { λ s. Some (map (λ n. take n.shown n.first) s.newcomers.items) };
 
@@ -550,6 +557,7 @@ impl Sockets for MemorySockets {
         let ready = self.find(milliseconds, sends);
         self.last = Last {
             ready,
+            sends,
             ended: self.clock,
         };
         ready

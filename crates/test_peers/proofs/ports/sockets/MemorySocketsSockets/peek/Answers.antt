@@ -1,4 +1,4 @@
-use Rattle.std.proofs.Common.{◌≡◌, ◌≤◌, ◌∙◌, ℕ, List, Some, arith, ap, take}
+use Rattle.std.proofs.Common.{◌≤◌, ◌∙◌, ℕ, List, Some, arith, ap, take}
 use Rattle.std.proofs.lemmas.List.{length-take, take-take}
 use Rattle.test_peers.specs.declared.ports.sockets.Newcomer.{Newcomer}
 use Rattle.test_peers.proofs.ShownLemmas.{map_replaced}

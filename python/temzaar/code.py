@@ -15,7 +15,8 @@ COLUMN_PARITIES = {9: (0, 1, 3, 5, 6), 10: (0, 1, 2, 4, 6, 7), 11: (0, 1, 2, 3, 
 # The rows and columns that carry information; the rows and columns after them are parities.
 INFORMATION_ROWS, INFORMATION_COLUMNS = 9, 11
 # The cells of the information bits, most significant first. The three cells before them are reserved.
-INFORMATION_CELLS = [(row, column) for row in range(INFORMATION_ROWS) for column in range(INFORMATION_COLUMNS)][3:]
+INFORMATION_CELLS = [(row, column) for row in range(INFORMATION_ROWS)
+                     for column in range(INFORMATION_COLUMNS)][3:]
 
 # x^16 + x^12 + x^5 + 1, what the remainder is complemented with, and the mask of a CSBK.
 POLYNOMIAL, COMPLEMENT, CSBK_MASK = 0x11021, 0xFFFF, 0xA5A5

@@ -112,7 +112,9 @@ class Stage:
         self.controller.wait_until_served()
         if self.row == "at-once":
             self.opened.enter_context(connect("127.0.0.1", self.inner.row(self.carrier)["port"]))
-        self.relay = self.opened.enter_context(closing(Relay(self.site, self.inner, self.carrier, self.connections, MANNERS.get(self.row, frame_by_frame))))
+        manner = MANNERS.get(self.row, frame_by_frame)
+        relay = Relay(self.site, self.inner, self.carrier, self.connections, manner)
+        self.relay = self.opened.enter_context(closing(relay))
 
     def until(self, is_reached: Callable[[], object], seconds: float) -> bool:
         """Passes everything on until something is reached, the client's program has ended, or the time is up. Whether it was reached."""

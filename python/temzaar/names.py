@@ -88,11 +88,14 @@ class Names:
             return text
         return IN_TEXT.sub(lambda found: f"{found[1]} {self.label(WORDS[found[1]], int(found[2]), columns)}", text)
 
-    def call_cells(self, carrier: int, slot: int, is_group: bool, target: int, source: int) -> list[str]:
-        """The cells of a call in a table: its slot, its kind, its source and its target, with their names."""
+    def call_cells(self, carrier: int, slot: int, is_group: bool, target: int,
+                   source: int) -> list[str]:
+        """The cells of a call in a table: its slot, its kind, its source and its target, with their
+        names."""
         slot_cell = named(f"{carrier}/{slot}", self.name_of(Kind.CARRIER, carrier), NAME_COLUMNS)
         called = self.label(called_kind(is_group), target, NAME_COLUMNS)
-        return [slot_cell, kind_of_call(is_group), self.label(Kind.RADIO, source, NAME_COLUMNS), called]
+        caller = self.label(Kind.RADIO, source, NAME_COLUMNS)
+        return [slot_cell, kind_of_call(is_group), caller, called]
 
     def of_call(self, called: Kind, source: int | None, target: int, carrier: int) -> dict[str, str | None]:
         """The names of a call's parties and carrier, by CALL_FIELDS."""

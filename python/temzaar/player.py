@@ -175,15 +175,19 @@ class Sign:
 
 
 def sign_of(pdu: Pdu, since: float, received: float) -> Sign:
-    """What a grant or a P_CLEAR shows. A grant may have waited since the last fill before its poll."""
-    return Sign(True, granted_parties(pdu), since, received) if is_grant(pdu) else Sign(False, (pdu["group"], pdu["target"]), since, received)
+    """What a grant or a P_CLEAR shows. A grant may have waited since the last fill before its
+    poll."""
+    grants = is_grant(pdu)
+    parties = granted_parties(pdu) if grants else (pdu["group"], pdu["target"])
+    return Sign(grants, parties, since, received)
 
 
 def overlaps(signs: Collection[Sign]) -> int:
     """How many grants are of a call on a slot that another call holds: no P_CLEAR and no loss can have ended that one before."""
     grants = sorted((it for it in signs if it.grants), key=lambda it: it.received)
     ends = [it for it in signs if not it.grants]
-    return sum(grant.parties != before.parties and not any(it.can_end(before, grant) for it in ends) for before, grant in zip(grants, grants[1:]))
+    return sum(grant.parties != before.parties and not any(it.can_end(before, grant) for it in ends)
+               for before, grant in zip(grants, grants[1:]))
 
 
 class Carrier:
@@ -343,7 +347,8 @@ class Play:
 
     def check_slots(self) -> None:
         """Counts the faults that the slots show."""
-        self.faults["grants on a slot on which another stands"] = sum(map(overlaps, self.signs.values()))
+        found = sum(map(overlaps, self.signs.values()))
+        self.faults["grants on a slot on which another stands"] = found
         self.faults["registrations acknowledged more often than they were asked for"] = self.radios.not_asked
 
     def judge(self) -> Counter[str]:

@@ -229,9 +229,11 @@ class Side:
 class Relay:
     """The ports of the carriers, and the connections that are passed on. SessionFault: a port cannot be listened on."""
 
-    def __init__(self, site: Site, inner: Site, carrier: int, kept: list[Connection], make_manner: Callable[[], Manner]) -> None:
-        """It listens on the ports of a site and passes on to those of the controller's, `inner`. The connections of a carrier are added to `kept`, and `make_manner`
-        makes the manner of a connection."""
+    def __init__(self, site: Site, inner: Site, carrier: int, kept: list[Connection],
+                 make_manner: Callable[[], Manner]) -> None:
+        """It listens on the ports of a site and passes on to those of the controller's, `inner`.
+        The connections of a carrier are added to `kept`, and `make_manner` makes the manner of a
+        connection."""
         self.inner, self.carrier, self.kept, self.make_manner = inner, carrier, kept, make_manner
         self.selector = selectors.DefaultSelector()
         self.listeners: dict[int, socket.socket] = {}

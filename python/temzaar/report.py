@@ -428,4 +428,5 @@ def write_report(report: Report, form: str) -> str:
     """The report in one of the FORMATS."""
     if form == TABLE_FORMAT:
         return text_report(report)
-    return rows_text([*long_rows(report)], ("section", "row", "key", "measure", "value", "unit"), form)
+    columns = "section", "row", "key", "measure", "value", "unit"
+    return rows_text([*long_rows(report)], columns, form)

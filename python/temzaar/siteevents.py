@@ -51,7 +51,8 @@ CARRIERS = {"was_lost": EventKind.CARRIER_LOST, "came_up": EventKind.CARRIER_BAC
 COMMANDS = {"drop_command": "drop {radio}", "end_command": "end {carrier} {slot}", "move_command": "move {channel}", "stay_command": "stay"}
 # The texts of events. Others have their detail.
 TEXTS = {
-    EventKind.CONTROL_LOST: "no control channel: carrier {0.carrier} was lost, and the site was off the air",
+    EventKind.CONTROL_LOST: "no control channel: carrier {0.carrier} was lost, and the site was "
+                            "off the air",
     EventKind.CONTROL_BACK: "the control channel is back: carrier {0.carrier} came up",
     EventKind.CARRIER_LOST: "carrier {0.carrier} was lost",
     EventKind.CARRIER_BACK: "carrier {0.carrier} came up",
@@ -113,7 +114,8 @@ class SiteEvent:
         before, after = (gap and gap + when for when in ("before", "after this"))
         # the reply to a command, and what is to be said of it
         outcome = "".join(f": {it}" for it in (self.reply, self.detail) if it)
-        return TEXTS.get(kind, "{0.detail}").format(self, before=before, after=after, outcome=outcome)
+        text = TEXTS.get(kind, "{0.detail}")
+        return text.format(self, before=before, after=after, outcome=outcome)
 
     def _refusal(self, names: Names) -> str:
         """Why a request was refused, what it was about, and how often. An address may be that of a radio or of a talkgroup."""

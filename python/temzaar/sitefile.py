@@ -25,8 +25,9 @@ class SiteFault(ToolFault):
 
 
 # The keys that tools read, the carriers before the number of one of them.
-NEEDED = ("regi", "tsi", "leave_bit", "hang", "maximum", "grant_copies", "clear_copies", "backoff_low", "backoff_high", "tick_ms", "silence", "link_version",
-          "console_port", "address", "radios", "groups", "carrier", "control")
+NEEDED = ("regi", "tsi", "leave_bit", "hang", "maximum", "grant_copies", "clear_copies",
+          "backoff_low", "backoff_high", "tick_ms", "silence", "link_version", "console_port",
+          "address", "radios", "groups", "carrier", "control")
 
 
 def fault_of_number(key: SiteKey, value: object) -> str:
@@ -40,7 +41,8 @@ def fault_of_row(row: object) -> str:
     """What is wrong with a table of a carrier; empty if nothing is."""
     if not isinstance(row, dict):
         return "wrong type carrier"
-    faults = (fault_of_number(key, row[name]) if name in row else f"missing {name}" for name, key in CARRIER_KEYS.items())
+    faults = (fault_of_number(key, row[name]) if name in row else f"missing {name}"
+              for name, key in CARRIER_KEYS.items())
     return next(filter(None, faults), "")
 
 

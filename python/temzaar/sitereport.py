@@ -132,8 +132,10 @@ class TextReport:
         for risk in self.report.risks:
             yield from self.risk_lines(risk)
         if self.report.lines:
-            rows = [(it.key, f"{it.value}{' (default)' if it.is_default else ''}", it.amounts, it.what) for it in self.report.lines]
-            yield from text_table([("key", "value", "that is", "what it is"), *rows], [False] * 4).splitlines()
+            rows = [(it.key, f"{it.value}{' (default)' if it.is_default else ''}", it.amounts, it.what)
+                    for it in self.report.lines]
+            head = "key", "value", "that is", "what it is"
+            yield from text_table([head, *rows], [False] * len(head)).splitlines()
         if self.report.names:
             yield from name_lines(self.report.names, self.has_colours)
         yield self.summary()

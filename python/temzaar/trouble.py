@@ -244,7 +244,8 @@ class TroubledCarrier:
             self.welcomed = True
             # the calls of a carrier that was lost have ended
             for slot in (0, 1):
-                self.play.signs[self.number, slot].append(Sign(False, (), self.down_since, received))
+                loss = Sign(False, (), self.down_since, received)
+                self.play.signs[self.number, slot].append(loss)
             self.sent, self.queued_since = received, self.hello_at
         elif frame.kind == FrameType.REFUSED and self.must_end == "refused":
             self.counts["refusals read"] += 1

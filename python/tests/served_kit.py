@@ -86,7 +86,8 @@ class ServedCase(FolderCase):
         self.built = program("dmr_trunk")
         self.variables = {"STATE_DIRECTORY": str(self.folder)}
 
-    def serve(self, site: Site, *words: str, **options: Any) -> contextlib.AbstractContextManager[Controller]:
+    def serve(self, site: Site, *words: str,
+              **options: Any) -> contextlib.AbstractContextManager[Controller]:
         """The controller, once it listens."""
         return served(site, *words, variables=self.variables, **options)
 
@@ -98,12 +99,15 @@ class ServedCase(FolderCase):
 
     def run_program(self, site: Site, *words: str, env: Mapping[Any, Any] | None = None,
                     **options: Any) -> subprocess.CompletedProcess[str]:
-        """The program over a site file, run to its end. `env` is its environment, if not `variables`."""
+        """The program over a site file, run to its end. `env` is its environment, if not
+        `variables`."""
         path = self.write("site.toml", site.text())
-        return subprocess.run([self.built, "--site", str(path), *words], capture_output=True, text=True, check=False,
-                              timeout=PATIENCE, env=self.variables if env is None else env, **options)
+        return subprocess.run([self.built, "--site", str(path), *words], capture_output=True, text=True,
+                              check=False, timeout=PATIENCE,
+                              env=self.variables if env is None else env, **options)
 
-    def expect_refusal(self, site: Site, variables: Mapping[Any, Any], fault: str) -> subprocess.CompletedProcess[str]:
+    def expect_refusal(self, site: Site, variables: Mapping[Any, Any],
+                       fault: str) -> subprocess.CompletedProcess[str]:
         """With these variables the program does not serve, but ends with a fault. It replays all the
         same. How it ended."""
         done = self.run_program(site, "--serve", "--terms", "1", env=variables)

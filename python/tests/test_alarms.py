@@ -151,7 +151,8 @@ class ScrapeConfig(FolderCase):
     def test_promtool_accepts_it(self) -> None:
         text = (RULES.parent / "scrape.yml").read_text(encoding="utf-8")
         self.assertRegex(text, r'- job_name: dmr_site\n(?:.*\n)* +labels: \{site: ')
-        expect_accepted("check", "config", self.write("prometheus.yml", f'rule_files: ["{RULES}"]\n{text}'))
+        config = self.write("prometheus.yml", f'rule_files: ["{RULES}"]\n{text}')
+        expect_accepted("check", "config", config)
 
 
 class Scraped(WebCase):
@@ -226,4 +227,5 @@ class Dashboard(FolderCase):
 
     def test_promtool_reads_the_expressions(self) -> None:
         rules = "".join(f"      - record: panel:{number}\n        expr: '{it}'\n" for number, it in enumerate(expressions().values())).replace("$__rate_interval", "5m")
-        expect_accepted("check", "rules", self.write("panels.yml", f"groups:\n  - name: panels\n    rules:\n{rules}"))
+        text = f"groups:\n  - name: panels\n    rules:\n{rules}"
+        expect_accepted("check", "rules", self.write("panels.yml", text))

@@ -231,7 +231,8 @@ class Repeated(ArchiveCase):
         add_term(self.path, 2)
         self.expect("2026-11.db: 2 calls, 4 events, 1 term added\n")
         for table in TIMES:
-            change(self.path, f"DELETE FROM {table} WHERE {'number' if table == 'terms' else 'term'} = 1")
+            column = "number" if table == "terms" else "term"
+            change(self.path, f"DELETE FROM {table} WHERE {column} = 1")
         add_term(self.path, 3)
         self.expect("2026-11.db: 1 call, 5 events, 1 term added\n")
         self.assertEqual(self.archived(), rows_of([make_records(self.path)]))
@@ -367,7 +368,8 @@ class Interrupted(ArchiveCase):
     """Runs that are killed, or cannot write."""
 
     def grow(self) -> None:
-        """The archive has all but the last call, event and term, which the controller's file has now."""
+        """The archive has all but the last call, event and term, which the controller's file has
+        now."""
         for table in TIMES:
             change(self.path, f"DELETE FROM {table} WHERE number = 8")
         self.run_at(self.now)

@@ -113,7 +113,9 @@ class Printed(RecordsCase):
 
     def test_names(self) -> None:
         """With names: next to the numbers of the table, cut to their column; in CSV and JSON after the other columns, which stay as they are."""
-        names = self.write("names.csv", "kind,number,name\nradio,1001,Bus 12\nradio,1002,\"=1+1,a\"\nradio,1003\ntalkgroup,91,Linienbus Nordring Süd\ntalkgroup,1001,nobody\ncarrier,1,東京\n")
+        names = self.write("names.csv", "kind,number,name\nradio,1001,Bus 12\n"
+                           "radio,1002,\"=1+1,a\"\nradio,1003\ntalkgroup,91,Linienbus Nordring Süd\n"
+                           "talkgroup,1001,nobody\ncarrier,1,東京\n")
         words = ["--records", str(self.path), "--names", str(names)]
         done = call_tool(main, *words)
         self.assertEqual((done.returncode, done.stdout), (0, NAMED_TABLE + GAP + UNTIL))

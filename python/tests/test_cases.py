@@ -70,8 +70,10 @@ class OverLinks(FolderCase):
         """Carrier, slot and PDU of each burst that is sent, in the order of the journal."""
         site = self.folder / SITE_FILE
         site.write_bytes(octets_of(case.site or ""))
-        printed = subprocess.run([self.decoder, "journal", "--fields", "--site", site], input=octets_of(case.script or ""), capture_output=True, check=True).stdout.decode()
-        return [it for entry in read_entries(printed.splitlines()) for it in entry.bursts()]
+        done = subprocess.run([self.decoder, "journal", "--fields", "--site", site],
+                              input=octets_of(case.script or ""), capture_output=True, check=True)
+        entries = read_entries(done.stdout.decode().splitlines())
+        return [it for entry in entries for it in entry.bursts()]
 
     def test_each_sends_the_same(self) -> None:
         for case in (it for it in CASES if it.status == 0):
@@ -110,9 +112,11 @@ class Controlled(FolderCase):
         site = self.write(SITE_FILE, Changes().text())
         for lines, most, status, fault in ((1, limit, 0, b""), (1000, resource.RLIM_INFINITY, 0, b""), (1000, limit, 4, b"dmr_trunk: out of memory\n")):
             with self.subTest(lines=lines, most=most):
-                script = self.write(SCRIPT_FILE, f"open 0\nbytes 0 {hello(0, 1).hex()}\n{polls * lines}")
-                done = subprocess.run([self.program, "--site", site, "--script", script], capture_output=True, check=False,
-                                      preexec_fn=lambda: resource.setrlimit(resource.RLIMIT_AS, (most, most)))
+                comes_up = f"open 0\nbytes 0 {hello(0, 1).hex()}\n"
+                script = self.write(SCRIPT_FILE, f"{comes_up}{polls * lines}")
+                done = subprocess.run(
+                    [self.program, "--site", site, "--script", script], capture_output=True, check=False,
+                    preexec_fn=lambda: resource.setrlimit(resource.RLIMIT_AS, (most, most)))
                 self.assertEqual((done.returncode, done.stderr, bool(done.stdout)), (status, fault, status == 0))
 
     def test_a_registry_that_is_full(self) -> None:

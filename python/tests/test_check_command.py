@@ -7,7 +7,9 @@ import subprocess
 import unittest
 
 from temzaar.cli.check import MOST_OCTETS
-from tests.support import SITES, TOP, TWO_CARRIERS, FolderCase, program, run_tool, take_signals, tool_words, wait_until
+from tests.support import (
+    SITES, TOP, TWO_CARRIERS, FolderCase, program, run_tool, take_signals, tool_words, wait_until,
+)
 from tests.test_check_risks import SITE
 
 FAULTY = SITE.replace("lpcn = 2", "lpcn = 4095").replace("hang = 100", "hnag = 100")

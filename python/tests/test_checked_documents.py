@@ -1,4 +1,5 @@
-"""What ci/check-documents knows of headings, to which links lead, and of lemma files; and what it says of the sizes of documents and the contents of long pages."""
+"""What ci/check-documents knows of headings, to which links lead, and of lemma files; and what it
+says of the sizes of documents and the contents of long pages."""
 import sys
 import unittest
 

@@ -194,7 +194,8 @@ class Clauses(FolderCase):
                 self.assertEqual(("\n".join(item.comment()), "\n".join([] if line == item.line else item.comment_of_part(line))), (comment, of_part))
 
     def test_other_documents_promise_nothing(self) -> None:
-        self.assertEqual(list(clauses.clause_faults(self.write("docs/OTHER.md", "- **One.** It runs.\n"))), [])
+        page = self.write("docs/OTHER.md", "- **One.** It runs.\n")
+        self.assertEqual(list(clauses.clause_faults(page)), [])
 
     def test_shown_definitions(self) -> None:
         block = f"<!-- check: definition Pair of crates/one/specs/Pairs.antt -->\n```\n{DEFINITIONS.split(chr(10), 1)[1].split(chr(10) * 2)[0]}\n```\n"

@@ -77,7 +77,8 @@ class Clients(unittest.TestCase):
         program("dmr_trunk")
         submit = cls.enterClassContext(concurrent.futures.ThreadPoolExecutor(AT_A_TIME)).submit
         # of each wrong client the row in whose point it is wrong
-        cls.wrong = {row: submit(judge, [*CLIENT, row], [row]) for row in sorted(POINTS, key=lambda row: row not in LONGEST)}
+        rows = sorted(POINTS, key=lambda row: row not in LONGEST)
+        cls.wrong = {row: submit(judge, [*CLIENT, row], [row]) for row in rows}
         cls.right = [submit(judge, CLIENT, rows) for rows in GROUPS]
         # the rows in which the versions differ
         cls.in_version_1 = [submit(judge, CLIENT, rows, "--link-version", "1") for rows in (GROUPS[0], ("pieces", "numbers", "fallback"))]

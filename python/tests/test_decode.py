@@ -219,7 +219,8 @@ class Judged(FolderCase):
             for match in filter(None, map(SENT.fullmatch, judged)):
                 sent[match[1]].append((match[2], match[3]))
             path = self.write("script.txt", script)
-            replay = subprocess.run([program("dmr_trunk"), "--site", TWO_CARRIERS, "--script", path], capture_output=True, text=True, check=True).stdout
+            words = [program("dmr_trunk"), "--site", TWO_CARRIERS, "--script", path]
+            replay = subprocess.run(words, capture_output=True, text=True, check=True).stdout
             lines = self.ask("replay", text=replay).stdout.split("\n")
             wanted: dict[str, list[tuple[str, str]]] = {}
             of: list[tuple[str, str]] = []

@@ -130,7 +130,8 @@ class Pages(FolderCase):
         self.assertEqual(set(pages), {"CHANGELOG.md", *(it.name for it in (TOP / "docs").glob("*.md"))})
         for page, text in pages.items():
             for target in re.findall(r"\]\(([^)#]+)(?:#[^)]*)?\)", text):
-                self.assertTrue(target.startswith("https://") or (self.folder / target).is_file(), f"{page}: {target}")
+                is_there = target.startswith("https://") or (self.folder / target).is_file()
+                self.assertTrue(is_there, f"{page}: {target}")
         self.assertIn("(../README.md", read_document("ASSURANCE.md"))
         self.assertFalse([page for page, text in pages.items() if "](../" in text])
 

@@ -74,7 +74,8 @@ class Kept(ServedCase):
     def test_a_second_controller_with_the_same_folder(self) -> None:
         """It is refused before it listens, though its ports are free. After a kill of the first the folder is free."""
         with self.serve(self.site) as controller:
-            done = self.expect_refusal(free_site(), self.variables, "another controller uses the folder of STATE_DIRECTORY")
+            done = self.expect_refusal(free_site(), self.variables,
+                                       "another controller uses the folder of STATE_DIRECTORY")
             self.assertEqual(done.stderr.count("\n"), 1)
             self.assertTrue(controller.runs())
             controller.process.kill()

@@ -34,7 +34,8 @@ def wakeups(pid: int) -> int:
 
 def page_faults(pid: int) -> int:
     """How often a process has touched a page of memory that it did not have yet."""
-    return int(pathlib.Path(f"/proc/{pid}/stat").read_text(encoding="utf-8").rpartition(")")[2].split()[7])
+    stat = pathlib.Path(f"/proc/{pid}/stat").read_text(encoding="utf-8")
+    return int(stat.rpartition(")")[2].split()[7])
 
 
 class Served(unittest.TestCase):
@@ -199,4 +200,5 @@ class TermMemory(Served):
         self.controller.stop()
         for sender in senders:
             sender.join(10)
-        self.assertLess(faults / ends, self.PAGES / 2, f"{faults} page faults at {ends} ends of terms of {self.PAGES} pages")
+        said = f"{faults} page faults at {ends} ends of terms of {self.PAGES} pages"
+        self.assertLess(faults / ends, self.PAGES / 2, said)

@@ -9,7 +9,9 @@ import sys
 import unittest
 from typing import NamedTuple
 
-from tests.support import TOP, FolderCase, load_command, manual_pages, program, read_document, run_tool, table_rows
+from tests.support import (
+    TOP, FolderCase, load_command, manual_pages, program, read_document, run_tool, table_rows,
+)
 from tests.test_messages import as_pattern, messages
 
 WRITE = TOP / "ci" / "write-manual"
@@ -152,7 +154,8 @@ class Form(FolderCase):
     def test_each_run_writes_the_same(self) -> None:
         """The prefix is that of the words, and the date that of the environment."""
         for name in ("one", "two"):
-            subprocess.run([sys.executable, WRITE, "--prefix", "/opt/x-y", self.folder / name], check=True, env={**os.environ, "SOURCE_DATE_EPOCH": "0"})
+            subprocess.run([sys.executable, WRITE, "--prefix", "/opt/x-y", self.folder / name],
+                           check=True, env={**os.environ, "SOURCE_DATE_EPOCH": "0"})
         for page, path in manual_pages().items():
             one, two = ((self.folder / it / path.parent.name / page).read_bytes() for it in ("one", "two"))
             self.assertEqual(one, two)
@@ -165,7 +168,8 @@ class Form(FolderCase):
         writing = load_command("ci/write-manual")
         for section, row in (("OPTIONS", "| --nothing | Text. |"), ("EXIT STATUS", "| 7 | Text. |"), ("DESCRIPTION", "@nothing"), ("FILES", "@paragraph HUB.md No paragraph begins so")):
             with self.subTest(row):
-                path = self.write("dmr_check.1.md", f"# dmr_check(1): check\n\n## {section}\n\n{row}\n")
+                text = f"# dmr_check(1): check\n\n## {section}\n\n{row}\n"
+                path = self.write("dmr_check.1.md", text)
                 with self.assertRaises(SystemExit):
                     writing.Writer(writing.Source(path), set()).page("0", "/usr", "")
 
@@ -279,7 +283,8 @@ class SiteFile(FolderCase):
         lines = sections_of("dmr_trunk.5")["EXAMPLES"]
         text = "\n".join(unescaped(line).removeprefix("    ") for line in lines[lines.index(".EX") + 1:lines.index(".EE")]) + "\n"
         built = program("dmr_trunk")
-        done = subprocess.run([built, "--site", self.write("site.toml", text), "--script", os.devnull], capture_output=True, text=True, check=False)
+        words = [built, "--site", self.write("site.toml", text), "--script", os.devnull]
+        done = subprocess.run(words, capture_output=True, text=True, check=False)
         self.assertEqual((done.returncode, done.stdout, done.stderr), (0, "carrier 0 -\ncarrier 1 -\n", ""))
 
 

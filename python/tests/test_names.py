@@ -86,8 +86,9 @@ class Bad(FolderCase):
             path.write_bytes(octets)
             with self.assertRaises(NamesFault) as caught:
                 read_names(str(path))
-            self.assertTrue(str(caught.exception).startswith(f"{self.folder}/a\\x1bb: line 1: {said}"), caught.exception)
-            self.assertTrue(str(caught.exception).endswith("; no line of the file is right"))
+            found = str(caught.exception)
+            self.assertTrue(found.startswith(f"{self.folder}/a\\x1bb: line 1: {said}"), found)
+            self.assertTrue(found.endswith("; no line of the file is right"))
 
     def test_too_many_lines(self) -> None:
         """The names up to the greatest number of lines are used."""

@@ -58,5 +58,6 @@ class Console(unittest.TestCase):
     def test_answers_that_depend_on_no_state(self) -> None:
         chosen = [(asked, answer) for asked, answer in exchanges() if asked.split()[0] in ALWAYS or answer[0] in ("error unknown command", "error no carrier")]
         self.assertGreaterEqual(len(chosen), 6)
-        _, told = read_printed(replay(program("dmr_trunk"), TWO_CARRIERS, "".join(f"say {asked}\n" for asked, _ in chosen)))
+        script = "".join(f"say {asked}\n" for asked, _ in chosen)
+        _, told = read_printed(replay(program("dmr_trunk"), TWO_CARRIERS, script))
         self.assertEqual(told, "".join(f"{line}\n" for _, answer in chosen for line in answer))

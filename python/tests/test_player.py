@@ -54,7 +54,9 @@ class Signs(unittest.TestCase):
     def test_sights(self) -> None:
         for case in SIGHTS:
             with self.subTest(case.name):
-                signs = [Sign(False, (), *times) if sign == "X" else sign_of(pdus.read(pdu_octets(sign)), *times) for sign, *times in case.signs]
+                signs = [Sign(False, (), *times) if sign == "X"
+                         else sign_of(pdus.read(pdu_octets(sign)), *times)
+                         for sign, *times in case.signs]
                 self.assertEqual(overlaps(signs), case.overlaps)
 
 
@@ -86,7 +88,8 @@ class Played(unittest.TestCase):
         late, fill = pdu_octets("L91/1001"), ALOHA
         play = self.play((0, pdu_octets("G91/1001")), (0, fill), (0, fill), (0, fill), (0, late), (0, bytes(10)), (0, late))
         self.assertEqual(list(play.radios.talkers), [(0, 1)])
-        counted = play.counts["grants"], play.counts["late grants"], sum(map(overlaps, play.signs.values())), sum(play.faults.values())
+        counted = (play.counts["grants"], play.counts["late grants"],
+                   sum(map(overlaps, play.signs.values())), sum(play.faults.values()))
         self.assertEqual(counted, (1, 2, 0, 0))
 
     def test_nobody_talks_for_a_late_grant_alone(self) -> None:

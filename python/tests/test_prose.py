@@ -104,4 +104,5 @@ class Listed(FolderCase):
         for path, text in (("a.md", "anew"), ("out/a.md", "anew"), ("docs/TRUSTED.md", "anew"), ("b", "#!/bin/sh\n# anew"), ("c", "# anew"), ("d.txt", "anew"),
                            ("e.rt", "// ok"), ("Makefile", "# anew"), ("f.py", "# anew")):
             self.write(path, f"{text}\n")
-        self.assertEqual(sorted(prose.read_places(prose.files_below(self.folder), self.folder)), ["Makefile", "a.md", "b", "f.py"])
+        found = prose.read_places(prose.files_below(self.folder), self.folder)
+        self.assertEqual(sorted(found), ["Makefile", "a.md", "b", "f.py"])

@@ -121,8 +121,10 @@ class OverTheProgram(FolderCase):
         out, fault = io.StringIO(), io.StringIO()
         wrong = self.write("wrong", f"#!/bin/sh\n'{self.program}' \"$@\" | sed '{change}'\n")
         wrong.chmod(0o755)
-        with unittest.mock.patch.object(soak, "build", lambda _: self.built), contextlib.redirect_stdout(out), contextlib.redirect_stderr(fault):
-            return soak.main(["--inputs", "4000", "--program", str(wrong)]), out.getvalue(), fault.getvalue()
+        with unittest.mock.patch.object(soak, "build", lambda _: self.built), \
+                contextlib.redirect_stdout(out), contextlib.redirect_stderr(fault):
+            status = soak.main(["--inputs", "4000", "--program", str(wrong)])
+        return status, out.getvalue(), fault.getvalue()
 
     def test_each_way(self) -> None:
         """A program that is right; one whose second octet for carrier 9 is another, in the WELCOME that answers the first HELLO; and one with another reply."""

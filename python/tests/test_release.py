@@ -65,7 +65,8 @@ class Steps(FolderCase):
         """A step that fails, one that does not start, and one that passes: their status and their last line."""
         for words, status, last in ((["sh", "-c", "echo first; echo last"], 0, "last"), (["sh", "-c", "echo why >&2; exit 3"], 3, "why"), (["./missing"], 127, "./missing: No such file or directory")):
             with self.subTest(words):
-                got = steps.run_step(steps.Step("a step", words, 1), self.folder, self.folder / "log.txt")
+                step = steps.Step("a step", words, 1)
+                got = steps.run_step(step, self.folder, self.folder / "log.txt")
                 self.assertEqual((got.status, got.last), (status, last))
 
 
@@ -255,7 +256,9 @@ class Components(FolderCase):
                 (self.folder / "WHAT").unlink(missing_ok=True)
                 if text is not None:
                     self.write("WHAT", text)
-                with unittest.mock.patch.multiple(components, ask_rt=lambda *_: f"{self.folder}/START-HERE.md\n", read_kit=lambda: "kit-1 logic c0ffee"):
+                asked = {"ask_rt": lambda *_: f"{self.folder}/START-HERE.md\n",
+                         "read_kit": lambda: "kit-1 logic c0ffee"}
+                with unittest.mock.patch.multiple(components, **asked):
                     identity = components.read_identity()
                 wanted = [f"{it} not known: the toolchain's file WHAT {why}" if it in unknown else line for it, line in lines.items()]
                 self.assertEqual(identity, ["kit-1 logic c0ffee", *wanted])

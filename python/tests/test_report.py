@@ -399,7 +399,8 @@ class OnThePage(ReportCase):
     def test_names(self) -> None:
         """They are next to their numbers, and are text alone."""
         self.make_day()
-        names = self.write("names.csv", "radio,1002,<b>&\"\ntalkgroup,91,Aaaaaaaaaaaaaaaaaaaaaaaaaaaaaaaaaaaaaaaa\ncarrier,1,=Mast\nradio,1006,Depot\n")
+        names = self.write("names.csv", f"radio,1002,<b>&\"\ntalkgroup,91,A{39 * 'a'}\n"
+                                        "carrier,1,=Mast\nradio,1006,Depot\n")
         page, text = self.page("--names", str(names), "--slots", "3")
         self.assertIn(("td", "", '<b>&"'), page.cells["radios"])
         self.assertIn(("td", "", "A" + 39 * "a"), page.cells["talkgroups"])
@@ -435,7 +436,8 @@ class InABrowser(ReportCase):
         """It fits from a phone to a wide screen, also with long names, and asks for nothing but
         itself."""
         self.make_day()
-        names = self.write("names.csv", "".join(f"{kind},{'W' * 40}\n" for kind in ("radio,1001", "radio,1006", "talkgroup,91", "carrier,1")))
+        kinds = "radio,1001", "radio,1006", "talkgroup,91", "carrier,1"
+        names = self.write("names.csv", "".join(f"{kind},{'W' * 40}\n" for kind in kinds))
         self.page("--names", str(names), "--slots", "3")
         browser = Chromium(find_chromium())
         self.addCleanup(browser.close)

@@ -1,4 +1,5 @@
-"""`trials/restart` over the proved program: it passes, and fails if something changes the file of records before each start."""
+"""`trials/restart` over the proved program: it passes, and fails if something changes the file of
+records before each start."""
 import re
 import shutil
 import subprocess
@@ -17,7 +18,8 @@ if os.path.exists(path):
 '
 exec "{program}" "$@"
 """
-TWICE = ("CREATE TEMP TABLE twice AS SELECT * FROM calls; UPDATE twice SET number = number + (SELECT max(number) FROM calls);"
+TWICE = ("CREATE TEMP TABLE twice AS SELECT * FROM calls;"
+         " UPDATE twice SET number = number + (SELECT max(number) FROM calls);"
          " INSERT INTO calls SELECT * FROM twice")
 
 
@@ -25,11 +27,14 @@ class Trial(FolderCase):
     """What the trial says."""
 
     def run_trial(self, *words: str, changes: str = "") -> subprocess.CompletedProcess[str]:
-        """The trial over the controller, whose file is changed if there are statements. The folder that a failed trial keeps is removed."""
+        """The trial over the controller, whose file is changed if there are statements. The folder
+        that a failed trial keeps is removed."""
         built = program("dmr_trunk")
-        changing = self.write("changing", CHANGING.format(python=sys.executable, statements=changes, program=built))
+        changing = self.write("changing", CHANGING.format(
+            python=sys.executable, statements=changes, program=built))
         changing.chmod(0o755)
-        line = [sys.executable, TRIAL, str(changing) if changes else built, *words, "--latest", "30"]
+        tried = str(changing) if changes else built
+        line = [sys.executable, TRIAL, tried, *words, "--latest", "30"]
         done = subprocess.run(line, capture_output=True, text=True, check=False, timeout=200)
         for folder in re.findall(r"the folder is (\S+)\)", done.stdout):
             shutil.rmtree(folder)
@@ -47,7 +52,9 @@ class Trial(FolderCase):
 
     def test_controllers_that_do_not(self) -> None:
         rows = r"term \d+: \d+ calls ended, and there are \d+ rows"
-        for changes, said in (("DELETE FROM registrations", r"the site has the radios of the file: \[\], and the file has"), (TWICE, rows), ("DELETE FROM calls WHERE number > 1", rows)):
+        radios = r"the site has the radios of the file: \[\], and the file has"
+        for changes, said in (("DELETE FROM registrations", radios), (TWICE, rows),
+                              ("DELETE FROM calls WHERE number > 1", rows)):
             with self.subTest(changes):
                 done = self.run_trial("rounds", "--rounds", "5", "--seed", "44", changes=changes)
                 self.assertEqual((done.returncode, done.stderr), (1, ""), done.stdout)

@@ -60,13 +60,15 @@ class Listening(FolderCase):
         site = free_site()
         port, path = site.row(1)["port"], self.write("site.toml", site.text())
         with socket.create_server(("127.0.0.1", port)):
-            done = subprocess.run([program("dmr_trunk"), "--site", path, "--serve", "--terms", "1"], capture_output=True, text=True, check=False, timeout=60)
+            done = subprocess.run([program("dmr_trunk"), "--site", path, "--serve", "--terms", "1"],
+                                  capture_output=True, text=True, check=False, timeout=60)
         reason = f"[WARN  dmr_trunk] carrier 1: cannot listen on 127.0.0.1:{port}: Address already in use (os error 98)"
         self.assertEqual((done.returncode, done.stdout, done.stderr.splitlines()[1:]), (1, "", [reason, f"dmr_trunk: cannot listen on port {port}"]), done.stderr)
 
 
 class JournalLevel(FolderCase):
-    """The notes of a controller whose standard error is a stream of systemd's journal. Its console's port is taken: it notes its start, and then a warning."""
+    """The notes of a controller whose standard error is a stream of systemd's journal. The port of
+    its console is taken: it notes its start, and then a warning."""
 
     def setUp(self) -> None:
         super().setUp()

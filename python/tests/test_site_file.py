@@ -63,7 +63,8 @@ class Texts(FolderCase):
 
     def expect(self, text: str, fault: str | None) -> None:
         """A site file is taken, or refused with this fault."""
-        words = [program("dmr_trunk"), "--site", self.write("site.toml", text), "--script", os.devnull]
+        site = self.write("site.toml", text)
+        words = [program("dmr_trunk"), "--site", site, "--script", os.devnull]
         done = subprocess.run(words, capture_output=True, text=True, check=False)
         wanted = (1, f"dmr_trunk: site file: {fault}\n") if fault else (0, "")
         self.assertEqual((done.returncode, done.stderr), wanted, text)
@@ -126,7 +127,8 @@ class Texts(FolderCase):
 
 
 class LongFiles(FolderCase):
-    """Files that are longer than the programs read. A site file has 1 MiB at most, a script 1,024 MiB."""
+    """Files that are longer than the programs read. A site file has 1 MiB at most, a script
+    1,024 MiB."""
 
     def setUp(self) -> None:
         super().setUp()

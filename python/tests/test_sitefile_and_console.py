@@ -39,9 +39,11 @@ class SiteFile(FolderCase):
             with self.subTest(line):
                 path = str(self.write("site.toml", re.sub(r"(?m)^silence = .*$", line, text)))
                 if isinstance(wanted, str):
-                    self.assertRaisesRegex(SiteFault, f"^site file {re.escape(path)}: {wanted}$", read_console_place, path)
+                    said = f"^site file {re.escape(path)}: {wanted}$"
+                    self.assertRaisesRegex(SiteFault, said, read_console_place, path)
                 else:
-                    self.assertEqual(read_console_place(path), ConsolePlace("127.0.0.1", 7100, wanted, 10000, 60))
+                    place = ConsolePlace("127.0.0.1", 7100, wanted, 10000, 60)
+                    self.assertEqual(read_console_place(path), place)
 
     def test_radios_are_admitted(self) -> None:
         site = Site(TWO_CARRIERS)

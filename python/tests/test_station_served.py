@@ -92,7 +92,8 @@ class Receiver(FolderCase):
         lines += [line for _ in range(20) for line in ("1 voice", "")]
         site = free_site(hang=4)
         with served(site):
-            done = example(site, "-n", "40", "-x", "-f", str(self.write("heard", "".join(f"{line}\n" for line in lines))))
+            file = self.write("heard", "".join(f"{line}\n" for line in lines))
+            done = example(site, "-n", "40", "-x", "-f", str(file))
             radios = asked(site, "radios 1000")
         sent = re.findall(r"^transmits (\d) (\w+)$", done.stdout, re.M)
         made = ask(f"make {test_link.BURSTS[name].hex()} 0 1 3" for name in test_link.BURSTS)

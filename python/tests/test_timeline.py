@@ -54,7 +54,8 @@ class Lists(FolderCase):
 
     def test_names(self) -> None:
         """In the table next to the numbers; in CSV and JSON after the other columns, which stay as they are; in the picture in what marks say."""
-        path = str(self.write("names.csv", "radio,1001,-Bus 12\ntalkgroup,91,Drivers\ncarrier,0,Mast North\n"))
+        text = "radio,1001,-Bus 12\ntalkgroup,91,Drivers\ncarrier,0,Mast North\n"
+        path = str(self.write("names.csv", text))
         table, sheet, rows, svg = (run_example("queued_call", *words, "--start", "10:15", "--names", path).stdout
                                    for words in (["--calls"], ["--calls", "csv"], ["--calls", "json"], []))
         fault = run_example("queued_call", "--names", str(self.folder / "none"))
@@ -109,7 +110,8 @@ class Calls(FolderCase):
     def calls(self, script: str, site: Site = site) -> list[Call]:
         """The calls of a script; radios 1001 to 1003 register before."""
         path = str(self.write("site.toml", site.text()))
-        return calls_of(journal_of(program("dmr_decode"), path, COMES_UP + register(1001, 1002, 1003) + script), site.plan["hang"])
+        script = COMES_UP + register(1001, 1002, 1003) + script
+        return calls_of(journal_of(program("dmr_decode"), path, script), site.plan["hang"])
 
     def test_ends(self) -> None:
         leaving = request(pdus.REGISTRATION, 0xFFFEC6, 1001, 0)
@@ -172,7 +174,9 @@ class Marks(FolderCase):
             ("the same call again, which has its own grant", late + CALLED + POLLED, (2, 1, 1, 0, 5)),
         ):
             with self.subTest(name):
-                words = "--site", str(self.write("site.toml", self.site.text())), "--script", str(self.write("script.txt", COMES_UP + script))
+                site = self.write("site.toml", self.site.text())
+                file = self.write("script.txt", COMES_UP + script)
+                words = "--site", str(site), "--script", str(file)
                 svg = call_tool(main, *words, "--program", program("dmr_trunk")).stdout
                 found = Counter(re.findall(r'class="(\w+)"', svg))
                 self.assertEqual(tuple(found[kind] for kind in ("call", "grant", "ended", "late", "heard")), drawn)
@@ -286,7 +290,8 @@ class Faults(FolderCase):
     def draw(self, printed_text: str, *words: str) -> subprocess.CompletedProcess[str]:
         """The tool over an example and an output."""
         output = str(self.write("printed", printed_text))
-        return call_tool(main, "--site", TWO_CARRIERS, "--script", str(EXAMPLES / "scripts" / "operator.txt"), "--printed", output, *words)
+        script = str(EXAMPLES / "scripts" / "operator.txt")
+        return call_tool(main, "--site", TWO_CARRIERS, "--script", script, "--printed", output, *words)
 
     def test_the_command_says_so(self) -> None:
         for text, said in (("", "the output has no line for carrier 0: it is not that of a replay over this site file"),

@@ -89,7 +89,8 @@ class Trusted(FolderCase):
         for path, text in (("crates/one/src/lib.rt", CODE), ("crates/one/specs/Numbers.antt", NUMBERS), ("crates.txt", "one:\n")):
             self.write(path, text)
         document = self.write("TRUSTED.md", "# Head\n\nThe functions: `none`.\n")
-        self.enterContext(mock.patch.multiple(tool, CRATES=self.folder / "crates", DOCUMENT=document, SHORT=self.folder / "ASSURANCE.md"))
+        self.enterContext(mock.patch.multiple(
+            tool, CRATES=self.folder / "crates", DOCUMENT=document, SHORT=self.folder / "ASSURANCE.md"))
         self.enterContext(mock.patch.object(clauses, "TOP", self.folder))
         clauses.all_items.cache_clear()
         self.addCleanup(clauses.all_items.cache_clear)

@@ -22,7 +22,8 @@ class Versions(FolderCase):
 
     def test_the_hubs_first_note(self) -> None:
         folder = self.folder
-        config = self.write("hub.toml", f'[controller]\nsite_file = "/nowhere.toml"\n[line_port]\nsocket = "{folder}/none/s"\n[audit]\nfile = "{folder}/audit.jsonl"\n')
+        config = self.write("hub.toml", '[controller]\nsite_file = "/nowhere.toml"\n'
+                            f'[line_port]\nsocket = "{folder}/none/s"\n[audit]\nfile = "{folder}/audit.jsonl"\n')
         done = call_tool(hub.main, "--config", str(config))
         self.assertEqual(done.stderr.split("\n")[0], f"[INFO  dmr_hub] dmr_hub {VERSION}: config file {config}, site file /nowhere.toml")
 

@@ -45,7 +45,8 @@ def read_words(words: Sequence[str] | None) -> argparse.Namespace:
     """The words of the command line."""
     parser = new_parser(__doc__)
     parser.add_argument("--records", metavar="FILE", default=DEFAULT_PATH, help=f"the controller's file of records ({DEFAULT_PATH})")
-    parser.add_argument("--format", choices=FORMATS, default=TABLE_FORMAT, help="what is printed (table)")
+    parser.add_argument("--format", choices=FORMATS, default=TABLE_FORMAT,
+                        help="what is printed (table)")
     parser.add_argument("--radio", type=count_of(1, MOST_ADDRESS), help="calls that this radio began, and calls to it")
     parser.add_argument("--group", type=count_of(1, MOST_ADDRESS), help="calls to this talkgroup")
     parser.add_argument("--carrier", type=count_of(0, 15), help="calls on this carrier")

@@ -95,7 +95,8 @@ def play_site(options: argparse.Namespace, controller: Controller | None) -> int
 
 def play_with_controller(options: argparse.Namespace) -> int:
     """Plays, with a controller that is started if the words say so, and stopped after success and failure alike. The status."""
-    with Controller(options.program, options.served) if options.program else contextlib.nullcontext() as controller:
+    started = Controller(options.program, options.served) if options.program else None
+    with started or contextlib.nullcontext() as controller:
         return play_site(options, controller)
 
 

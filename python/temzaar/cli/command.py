@@ -147,9 +147,10 @@ def new_parser(text: str | None) -> argparse.ArgumentParser:
 
 
 def command_of(name: str, read_words: Callable[[Sequence[str] | None], argparse.Namespace],
-               action: Callable[[argparse.Namespace], int], fault_status: int = FAULT) -> Callable[[Sequence[str] | None], int]:
-    """The `main` of a command, which does what its words say, or those of the process. It returns the
-    status, which is `fault_status` after a fault."""
+               action: Callable[[argparse.Namespace], int],
+               fault_status: int = FAULT) -> Callable[[Sequence[str] | None], int]:
+    """The `main` of a command, which does what its words say, or those of the process. It returns
+    the status, which is `fault_status` after a fault."""
     def main(words: Sequence[str] | None = None) -> int:
         """Runs the command. The status."""
         options = read_words(words)

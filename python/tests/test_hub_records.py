@@ -34,6 +34,7 @@ TOTALS = {
     'dmr_site_call_duration_seconds_bucket{le="20"}': 4, 'dmr_site_call_duration_seconds_bucket{le="60"}': 5, 'dmr_site_call_duration_seconds_bucket{le="+Inf"}': 5,
     "dmr_site_call_duration_seconds_sum": 73.5, "dmr_site_call_duration_seconds_count": 5,
     "dmr_site_registrations_total": 4, 'dmr_site_refusals_total{reason="Group_Not_Allowed"}': 2, 'dmr_site_refusals_total{reason="Called_Party_Busy"}': 1,
+    'dmr_site_carrier_losses_total{carrier="0"}': 0, 'dmr_site_carrier_losses_total{carrier="1"}': 1,
     "dmr_site_terms_total": 3, "dmr_site_polls_total": 2876 + 1440 + 1905, "dmr_site_bursts_total": 41, "dmr_site_noise_bursts_total": 4, "dmr_site_grants_total": 15,
     "dmr_site_late_entries_total": 3, "dmr_site_longest_queue": 0, "dmr_site_records_timestamp_seconds": NOON // 1000 + 160,
 }

@@ -34,8 +34,8 @@ def call_durations() -> Histogram:
 
 @dataclass
 class NewRecords:
-    """What is new. `last` is the newest term, None if there is none; `terms` is how many are new. Calls are counted by kind and cause, refusals by reason.
-    `newest` has the newest calls in their order, each as the record of a SeenCall, and `happened` has counts for the samples of each span. `begins_ms` is when the
+    """What is new. `last` is the newest term, None if there is none; `terms` is how many are new. Calls are counted by kind and cause, refusals by reason,
+    losses by carrier, also of one that only came up. `newest` has the newest calls in their order, each as the record of a SeenCall, and `happened` has counts for the samples of each span. `begins_ms` is when the
     first of the new terms began; `gaps` are the times that are not recorded, up to the last of them. `events` are those of the last day, and `used` is how many slots had a
     call in samples of each span."""
     last: RecordedTerm | None = None
@@ -44,6 +44,7 @@ class NewRecords:
     calls: Counter[tuple[str, str]] = field(default_factory=Counter)
     durations: Histogram = field(default_factory=call_durations)
     refusals: Counter[str] = field(default_factory=Counter)
+    losses: Counter[int] = field(default_factory=Counter)
     newest: list[bytes] = field(default_factory=list)
     happened: dict[str, list[Happened]] = field(default_factory=dict)
     begins_ms: int | None = None
@@ -137,6 +138,9 @@ def take_new(records: Records, last: RecordedTerm | None, new: NewRecords) -> No
     for reason, count, number in records.conn.execute("SELECT reason, count(*), min(number) FROM events WHERE kind = 'refused' AND term > ? GROUP BY reason", (since,)):
         require(reason is None or is_whole(reason), f"events, row {number}", f"reason is {reason!r}")
         new.refusals[reason_text(reason)] += count
+    for carrier, count, number in records.conn.execute("SELECT carrier, sum(kind = 'was_lost'), min(number) FROM events WHERE kind IN ('came_up', 'was_lost') AND term > ? GROUP BY carrier", (since,)):
+        require(is_whole(carrier, 0, LAST_CARRIER), f"events, row {number}", f"carrier is {carrier!r}")
+        new.losses[carrier] = count
     new.gaps = find_gaps(records, since)
     new.begins_ms = records.conn.execute("SELECT min(ended_ms - ticks * tick_ms) FROM terms WHERE number > ?", (since,)).fetchone()[0]
     require(new.begins_ms is None or is_whole(new.begins_ms), "terms", f"a term began at {new.begins_ms!r}")

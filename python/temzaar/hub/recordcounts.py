@@ -27,6 +27,7 @@ class RecordCounts(Counts):
         self.durations = call_durations()
         self.registrations = Series("dmr_site_registrations_total", "Radios that were registered.")
         self.refusals = Series("dmr_site_refusals_total", "Requests that were refused, by the reason.")
+        self.losses = Series("dmr_site_carrier_losses_total", "Times that a carrier was lost.")
         self.terms = Series("dmr_site_terms_total", "Terms that were recorded.")
         self.polls = Series("dmr_site_polls_total", "Polls of carriers.")
         self.bursts = Series("dmr_site_bursts_total", "Bursts in which a PDU was read.")
@@ -57,6 +58,8 @@ class RecordCounts(Counts):
         self.durations.add(new.durations)
         for reason, count in new.refusals.items():
             self.refusals.add(count, reason=reason)
+        for carrier, count in sorted(new.losses.items()):
+            self.losses.add(count, carrier=str(carrier))
         self.gaps.add(len(new.gaps))
         self.unrecorded.add(sum(it.seconds for it in new.gaps))
         if new.last:

@@ -120,7 +120,7 @@ class AfterARestart(EventCase):
     async def begin(self) -> Operator:
         """An operator of a hub that has read the records, and knows that all carriers are up."""
         hub = await self.start(config=self.config(records=self.db))
-        await wait_until(lambda: hub.records and hub.records.last and all(it.ended_ms for it in hub.events.kinds[EventKind.CARRIER_LOST]))
+        await wait_until(lambda: hub.model.picture and hub.records and hub.records.last and all(it.ended_ms for it in hub.events.kinds[EventKind.CARRIER_LOST]))
         return await self.connect()
 
     async def restart(self) -> Operator:

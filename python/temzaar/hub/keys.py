@@ -62,6 +62,7 @@ def in_range(called: str, low: float, high: float, find: Callable[[Any], Any]) -
     says = f"{low} to {high}"
 
     def find_in_range(value: Any) -> Any:
+        """The number of a value. ValueError: it has none, or one out of the range."""
         found = find(value)
         if found is None:
             raise ValueError(f"not a {called}: {says}")
@@ -74,6 +75,7 @@ def in_range(called: str, low: float, high: float, find: Callable[[Any], Any]) -
 def file_path(or_none: bool = False) -> Kind:
     """An absolute path; it may be empty if `or_none` says so."""
     def is_path(value: Any) -> bool:
+        """Whether a value is such a path."""
         return isinstance(value, str) and ((or_none and not value) or (value.startswith("/") and "\0" not in value))
     return kind_of("an absolute path, or empty" if or_none else "an absolute path", is_path)
 
@@ -91,6 +93,7 @@ def choice(*words: str) -> Kind:
 def name_list(numbers: bool = False) -> Kind:
     """A list of names, in which numbers count as names too if `numbers` says so."""
     def is_name(value: Any) -> bool:
+        """Whether a value is a name."""
         return (isinstance(value, str) and value != "") or (numbers and is_whole_number(value))
     says = "a list of names or numbers" if numbers else "a list of names"
     return Kind(says, lambda value: tuple(value) if isinstance(value, list) and all(map(is_name, value)) else None)
@@ -101,6 +104,7 @@ def carrier_choice() -> Kind:
     says = '"all", "none" or a list of carriers'
 
     def find(value: Any) -> str | tuple[int, ...]:
+        """The carriers of a value. ValueError: it names none."""
         if value in ("all", "none"):
             return str(value)
         if not isinstance(value, list) or not all(is_whole_number(it) and 0 <= it <= 15 for it in value):
@@ -112,6 +116,7 @@ def carrier_choice() -> Kind:
 def sought_text(most: int) -> Kind:
     """A text to search for, as a query of HTTP has it: other characters than letters and digits may be written as `%HH`."""
     def find(value: str) -> str | None:
+        """The text of a value; None if it has none."""
         # a character has four octets at most, and each is written with three characters
         text = unquoted(value, 12 * most)
         return text if text.isprintable() and 1 <= len(text) <= most else None
@@ -122,6 +127,7 @@ def instant() -> Kind:
     """A time, in milliseconds since 1970, as a query of HTTP has it: of ISO 8601, with a zone, or as that number. Other characters than letters and digits
     may be written as `%HH`."""
     def find(value: str) -> int | None:
+        """The time of a value; None if it has none."""
         text = unquoted(value, 3 * MOST_OF_TIME)
         try:
             if text.isascii() and text.isdecimal():

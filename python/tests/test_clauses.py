@@ -2,6 +2,7 @@
 import contextlib
 import importlib
 import io
+import re
 import unittest
 from unittest import mock
 
@@ -9,6 +10,7 @@ from tests.support import TOP, FolderCase, load_command
 
 command = load_command("ci/clauses")
 clauses = importlib.import_module("documents.clauses")
+table_of = importlib.import_module("documents.names").table_of
 
 CODE = """\
 use x::Y;
@@ -222,3 +224,22 @@ class Promises(unittest.TestCase):
         """The section "By crate" names each crate that is not one of tests."""
         section = (TOP / "docs/GUARANTEES.md").read_text(encoding="utf-8").partition("\n## By crate\n")[2].partition("\n## ")[0]
         self.assertEqual([it.name for it in sorted((TOP / "crates").glob("dmr_*")) if f"`{it.name}`" not in section], [])
+
+
+class ShownBy(unittest.TestCase):
+    """The table of refusals."""
+
+    def test_names(self) -> None:
+        """Each name after V, S or T is a function of that crate."""
+        sources = {letter: "".join(it.read_text(encoding="utf-8") for it in (TOP / "crates" / crate / "src").rglob("*.rt"))
+                   for letter, crate in (("V", "test_values"), ("S", "test_stories"), ("T", "test_trials"))}
+        lacking, named = [], 0
+        for *_, shown_by in table_of(clauses.PROMISES.read_text(encoding="utf-8"), "call \\| refusals"):
+            letter = ""
+            for other, name in re.findall(r"\b([VST]) (?=`)|`(\w+)`", shown_by):
+                letter = other or letter
+                named += bool(letter and name)
+                if letter and name and f"fn {name}(" not in sources[letter]:
+                    lacking.append(f"{letter} {name}")
+        self.assertEqual(lacking, [])
+        self.assertGreater(named, 20)

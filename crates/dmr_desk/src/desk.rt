@@ -5,7 +5,7 @@ ghost use Rattle.std.specs.Prelude.{IfErr, OnOk};
 ghost use Rattle.dmr_desk.specs.Audited.{IsAudited, IsFault, IsKept, IsLeastMissing, IsUnreported};
 ghost use Rattle.dmr_desk.specs.BookState.{AreOfActors, answer_to, book_with_entry};
 ghost use Rattle.dmr_desk.specs.Limits.{most_actors};
-ghost use Rattle.dmr_desk.specs.Opening.{IsLimit, IsNumber, IsRefused};
+ghost use Rattle.dmr_desk.specs.Opening.{IsBlankFor, IsLimit, IsNumber, IsRefused};
 ghost use Rattle.dmr_desk.specs.Seats.{empty_seats, opened, seat_with_deposit};
 
 use crate::audit::{audit_report, first_differing_alone, first_differing_in_threads, gather_views};
@@ -181,39 +181,10 @@ impl<L: DeskLedger> SharedDesk<L> {
         limit: usize,
         actors: u8,
     ) -> Result<(SharedDesk<L>, Vec<Seat<L>>), (OpenFault, Site)>
-        requires name { blank.name ≡ L.name }
-        requires parts { blank.parts ≡ L.parts }
-        requires eighteen { blank.parts ≡ most_actors }
-        requires desk { L.desk ≡ record { site = site; limit = limit; actors = actors } }
+        requires { IsBlankFor L.name L.parts L.desk (opened site limit actors) blank }
         ensures numbers { OnOk result (IsLimit limit × IsNumber actors) }
-        ensures desk { IfOk result
-            (λ opened. opened.0 ≡ record { site = site; limit = limit; actors = actors }) }
-        ensures seats { IfOk result (λ opened. opened.1.items ≡ empty_seats actors) }
-        ensures fault { IfErr result (λ refused. IsRefused limit actors refused.0) }
-        ensures site { IfErr result (λ refused. refused.1 ≡ site) }
-    {
-        let mut spare = SpareLists::new(alloc);
-        SharedDesk::<L>::open_with(alloc, blank, site, limit, actors, &mut spare)
-    }
-
-    /// Does the same as [`open`](SharedDesk::open). If lists with the room are kept, their memory is used. If the limit
-    /// is that of the term before, `OutOfMemory` loses none of them.
-    pub(crate) fn open_with(
-        alloc: Global,
-        blank: Blank,
-        site: Site,
-        limit: usize,
-        actors: u8,
-        spare: &mut SpareLists,
-    ) -> Result<(SharedDesk<L>, Vec<Seat<L>>), (OpenFault, Site)>
-        requires name { blank.name ≡ L.name }
-        requires parts { blank.parts ≡ L.parts }
-        requires eighteen { blank.parts ≡ most_actors }
-        requires desk { L.desk ≡ record { site = site; limit = limit; actors = actors } }
-        ensures numbers { OnOk result (IsLimit limit × IsNumber actors) }
-        ensures desk { IfOk result
-            (λ opened. opened.0 ≡ record { site = site; limit = limit; actors = actors }) }
-        ensures seats { IfOk result (λ opened. opened.1.items ≡ empty_seats actors) }
+        ensures desk { IfOk result (λ o. o.0 ≡ opened site limit actors) }
+        ensures seats { IfOk result (λ o. o.1.items ≡ empty_seats actors) }
         ensures fault { IfErr result (λ refused. IsRefused limit actors refused.0) }
         ensures site { IfErr result (λ refused. refused.1 ≡ site) }
     {
@@ -223,10 +194,34 @@ impl<L: DeskLedger> SharedDesk<L> {
         if actors == 0 || usize::from(actors) > MOST_ACTORS {
             return Err((OpenFault::BadActors, site));
         }
+        let mut spare = SpareLists::new(alloc);
+        match SharedDesk::<L>::open_with(alloc, blank, site, limit, actors, &mut spare) {
+            Ok(made) => Ok(made),
+            Err(site) => Err((OpenFault::OutOfMemory, site)),
+        }
+    }
+
+    /// Opens a desk as [`open`](SharedDesk::open) does, of a limit and a number of actors that are in range. If lists
+    /// with the room are kept, their memory is used. On an error an allocation was refused. If the limit is that of the
+    /// term before, none of the lists is then lost.
+    pub(crate) fn open_with(
+        alloc: Global,
+        blank: Blank,
+        site: Site,
+        limit: usize,
+        actors: u8,
+        spare: &mut SpareLists,
+    ) -> Result<(SharedDesk<L>, Vec<Seat<L>>), Site>
+        requires blank { IsBlankFor L.name L.parts L.desk (opened site limit actors) blank }
+        requires numbers { IsLimit limit × IsNumber actors }
+        ensures desk { IfOk result (λ o. o.0 ≡ opened site limit actors) }
+        ensures seats { IfOk result (λ o. o.1.items ≡ empty_seats actors) }
+        ensures site { IfErr result (λ back. back ≡ site) }
+    {
         let (total, mut rest) = blank.open::<L>();
         let book = match Book::with_lists(alloc, site, limit, spare) {
             Ok(book) => book,
-            Err((_, site)) => return Err((OpenFault::OutOfMemory, site)),
+            Err((_, site)) => return Err(site),
         };
         match seats_for(alloc, spare, &mut rest, limit, actors) {
             Ok(seats) => {
@@ -243,7 +238,7 @@ impl<L: DeskLedger> SharedDesk<L> {
             Err(_) => {
                 let (site, journal) = book.into_parts();
                 spare.keep_journal(journal);
-                Err((OpenFault::OutOfMemory, site))
+                Err(site)
             }
         }
     }

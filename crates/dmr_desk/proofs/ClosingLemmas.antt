@@ -1,18 +1,14 @@
 -- From seats and views to what closing shows.
-use Rattle.std.proofs.Common.{◌≡◌, ℕ, List, length, reverse, Option, Some, None, Result, Ok, Err, refl, sym, ◌∙◌, subst}
-use Rattle.std.specs.Prelude.{Contains, IfOk, IfErr, IfSome}
+use Rattle.std.proofs.Common.{◌≡◌, ℕ, List, length, reverse, Option, Some, None, refl, sym, ◌∙◌, subst}
+use Rattle.std.specs.Prelude.{Contains}
 use Rattle.std.proofs.lemmas.Option.{same_Some, slice_get_within}
-use Rattle.dmr_core.specs.declared.entry.Entry.{Entry}
 use Rattle.dmr_desk.specs.declared.report.Report.{Report}
-use Rattle.dmr_desk.specs.declared.report.Unreported.{Unreported}
-use Rattle.dmr_desk.specs.declared.fault.CloseFault.{CloseFault}
 use Rattle.dmr_desk.specs.declared.fault.CloseFault.TheVariants.{SeatMissing, Differs}
 use Rattle.dmr_desk.specs.BookState.{AreOfActors, BookState, IsSoundBook, site_after_entries}
 use Rattle.dmr_link.specs.Runs.{IsSafe}
 use Rattle.dmr_desk.specs.Seats.{SeatState, Opened}
 use Rattle.dmr_desk.specs.Views.{view_of}
-use Rattle.dmr_desk.specs.Audited.{AreGathered, IsAudited, IsDiffering, IsFault, IsFirstDiffering, IsKept, IsUnreported, count_of_deposits, deposits_of_seats}
-use Rattle.dmr_desk.proofs.ViewLemmas.{least_of_all, same_for_all}
+use Rattle.dmr_desk.specs.Audited.{AreGathered, IsAudited, IsDiffering, IsFault, IsKept, IsUnreported, count_of_deposits, deposits_of_seats}
 
 -- what a desk keeps of a book, at exactly the site and limit that it was opened with
 pub kept_of_book : (pages : BookState) (actors : ℕ) (seats : List SeatState) (report : Report) → IsSoundBook pages → IsSafe pages.opening.plan pages.opening.facts (reverse pages.entries) → AreOfActors actors pages.entries
@@ -29,33 +25,6 @@ kept_of_book pages actors seats report sound safe known site journal gathered co
       actors = many;
     } in
     subst P (λ i. record { site = sym site i; journal = sym journal i; views = report.views }) base
-
--- if no view differs, it is a report
-pub audited_if_same : (desk : Opened) (seats : List SeatState) (kept : Report) (differing : Option ℕ) (result : Result Report Unreported) → IsKept desk seats kept → IsFirstDiffering 0 (length kept.views.items) kept.views.items kept.journal differing
-    → IfOk result (λ report. (report ≡ kept) × (differing ≡ None)) → IfOk result (λ report. IsAudited desk seats report)
-audited_if_same desk seats kept differing (Err e) is first h = tt
-audited_if_same desk seats kept differing (Ok report) is first h =
-    let P : Option ℕ → Type 0 = λ d. IsFirstDiffering 0 (length kept.views.items) kept.views.items kept.journal d in
-    let Q : Report → Type 0 = λ r. IsAudited desk seats r in
-    subst Q (sym h.0) (record { kept = is; same = same_for_all kept.views.items kept.journal (subst P h.1 first) })
-
--- if a view differs, there is no report
-pub unreported_if_differing : (desk : Opened) (seats : List SeatState) (kept : Report) (differing : Option ℕ) (result : Result Report Unreported) → IsKept desk seats kept → IsFirstDiffering 0 (length kept.views.items) kept.views.items kept.journal differing
-    → IfErr result (λ unreported. (actor : ℕ) × (differing ≡ Some actor) × (unreported.fault ≡ Differs actor) × (unreported.kept ≡ Some kept)) → IfErr result (λ unreported. IsUnreported desk seats unreported.fault unreported.kept)
-unreported_if_differing desk seats kept differing (Ok report) is first h = tt
-unreported_if_differing desk seats kept differing (Err e) is first h =
-    let P : Option ℕ → Type 0 = λ d. IsFirstDiffering 0 (length kept.views.items) kept.views.items kept.journal d in
-    let Q : CloseFault → Type 0 = λ f. IsUnreported desk seats f (Some kept) in
-    let R : Option Report → Type 0 = λ k. IsUnreported desk seats e.fault k in
-    subst R (sym h.3) (subst Q (sym h.2) (is, least_of_all kept.views.items kept.journal h.0 (subst P h.1 first)))
-
--- what a desk kept has the journal of its book
-pub journal_if_differing : (kept : Report) (entries : List Entry) (differing : Option ℕ) (result : Result Report Unreported) → kept.journal ≡ entries
-    → IfErr result (λ unreported. (actor : ℕ) × (differing ≡ Some actor) × (unreported.fault ≡ Differs actor) × (unreported.kept ≡ Some kept)) → IfErr result (λ unreported. IfSome unreported.kept (λ k. k.journal ≡ entries))
-journal_if_differing kept entries differing (Ok report) same h = tt
-journal_if_differing kept entries differing (Err e) same h =
-    let P : Option Report → Type 0 = λ o. IfSome o (λ k. k.journal ≡ entries) in
-    subst P (sym h.3) same
 
 -- the deposits of a seat are the journal's list for its actor
 pub seat_has_view : (desk : Opened) (seats : List SeatState) (report : Report) → IsAudited desk seats report → (seat : SeatState) → Contains seats seat → seat.deposits ≡ view_of seat.actor report.journal

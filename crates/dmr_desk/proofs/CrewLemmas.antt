@@ -1,19 +1,25 @@
 -- Workers and their seats, one after another.
-use Rattle.std.proofs.Common.{◌≡◌, ℕ, zero, suc, ◌+◌, ◌==◌, ◌&&◌, Bool, true, false, List, [], ◌∷◌, ◌++◌, length, map, slice_index_or, remove, All, ◌<◌, refl, sym, ◌∙◌, ap, subst, arith}
+use Rattle.std.proofs.Common.{◌≡◌, ℕ, zero, suc, ◌+◌, ◌==◌, ◌&&◌, Bool, true, false, List, [], ◌∷◌, ◌++◌, length, slice_index_or, remove, All, Option, Some, None, ◌<◌, refl, sym, ◌∙◌, ap, subst, arith}
+use Rattle.std.specs.Prelude.{IfSome}
 use Rattle.std.proofs.lemmas.List.{length-append}
 use Rattle.std.proofs.lemmas.Bool.{eq-eqb, eqb-true}
 use Rattle.dmr_link.specs.declared.desk.Deposit.{Deposit}
 use Rattle.dmr_desk.specs.Seats.{SeatState, empty_seats}
-use Rattle.dmr_desk.specs.Work.{StationState}
-use Rattle.dmr_desk.specs.Term.{Done, IsWorkDone, AllDone, IsNew, AreNew, is_none, is_new, are_new}
+use Rattle.dmr_desk.specs.declared.actors.LinkWork.{LinkWork}
+use Rattle.dmr_desk.specs.declared.pace.Pacer.{Ghosts as Pacer}
+use Rattle.dmr_desk.specs.declared.station.Serving.{Ghosts as Serving}
+use Rattle.dmr_desk.specs.declared.threads.AllWork.{AllWork}
+use Rattle.dmr_desk.specs.declared.threads.TickerAndConsole.{TickerAndConsole}
+use Rattle.dmr_desk.specs.Crew.{AllDone, AllWorked, IsTicked, IsWorkDone}
+use Rattle.dmr_desk.specs.Term.{IsNew, AreNew, is_none, is_new, are_new}
 
 -- ---- work
 
-pub all_done_length : (n : ℕ) (ss : List StationState) (ds : List Done) → AllDone n ss ds → length ds ≡ length ss
-all_done_length n [] [] h = refl
-all_done_length n (s ∷ ss) (d ∷ ds) h = ap (λ k. suc k) (all_done_length (n + 1) ss ds h.1)
-all_done_length n [] (d ∷ ds) h = absurd h
-all_done_length n (s ∷ ss) [] h = absurd h
+pub all_done_length : {S L : Type 0} (serving : Serving S) (n : ℕ) (ss : List S) (ws : List (LinkWork S L)) → AllDone serving n ss ws → length ws ≡ length ss
+all_done_length serving n [] [] h = refl
+all_done_length serving n (s ∷ ss) (w ∷ ws) h = ap (λ k. suc k) (all_done_length serving (n + 1) ss ws h.1)
+all_done_length serving n [] (w ∷ ws) h = absurd h
+all_done_length serving n (s ∷ ss) [] h = absurd h
 
 -- ---- new seats
 
@@ -58,21 +64,14 @@ first_of [] left x some value rest = absurd (omega arith)
 first_of (y ∷ ys) left x some value rest = cc
 
 -- its work and that of the others
-pub all_done_cons : {S : Type 0} (f : S → StationState) (stations left : List S) (station : S) (seats others : List SeatState) (seat : SeatState) (n : ℕ) (d : Done) (ds : List Done) → stations ≡ station ∷ left → seats ≡ seat ∷ others → AreNew n seats
-    → IsWorkDone seat.actor (f station) d → (AreNew (n + 1) others → AllDone (n + 1) (map f left) ds) → AllDone n (map f stations) (d ∷ ds)
-all_done_cons {S = S} f stations left station seats others seat n d ds first second new done rest =
+pub all_done_cons : {S L : Type 0} (serving : Serving S) (stations left : List S) (station : S) (seats others : List SeatState) (seat : SeatState) (n : ℕ) (w : LinkWork S L) (ws : List (LinkWork S L)) → stations ≡ station ∷ left → seats ≡ seat ∷ others → AreNew n seats
+    → IsWorkDone serving seat.actor station w → (AreNew (n + 1) others → AllDone serving (n + 1) left ws) → AllDone serving n stations (w ∷ ws)
+all_done_cons {S = S} serving stations left station seats others seat n w ws first second new done rest =
     let P : List SeatState → Type 0 = AreNew n in
     let both = subst P second new in
-    let Q : ℕ → Type 0 = λ m. IsWorkDone m (f station) d in
-    let R : List S → Type 0 = λ xs. AllDone n (map f xs) (d ∷ ds) in
+    let Q : ℕ → Type 0 = λ m. IsWorkDone serving m station w in
+    let R : List S → Type 0 = λ xs. AllDone serving n xs (w ∷ ws) in
     subst R (sym first) (subst Q both.0.0 done, rest both.1)
-
-all_cons_at : {A : Type 0} (P : A → Type 0) (xs : List A) (x : A) → P x → All P xs → (k : ℕ) (d : A) → k < length (x ∷ xs) → P (slice_index_or (x ∷ xs) k d)
-all_cons_at P xs x is all zero d few = is
-all_cons_at P xs x is all (suc k) d few = all k d (omega arith)
-
-pub all_cons : {A : Type 0} (P : A → Type 0) (xs : List A) (x : A) → P x → All P xs → All P (x ∷ xs)
-all_cons P xs x is all = λ k d few. all_cons_at P xs x is all k d few
 
 pub all_tail : {A : Type 0} (P : A → Type 0) (xs left : List A) (x : A) → xs ≡ x ∷ left → All P xs → P x × All P left
 all_tail {A = A} P xs left x same all =
@@ -137,3 +136,13 @@ crew_of n seats middle rest console pacer all first second =
     let t : length middle ≡ n + 1 = omega arith in
     let Q : ℕ → Type 0 = λ i. IsNew i pacer in
     let R : ℕ → Type 0 = λ i. IsNew i console in (r, b.0, subst Q r b.1, subst R t a.1)
+
+-- the workers of a crew with new seats
+pub all_worked : {S T C L : Type 0} (serving : Serving S) (pacing : Pacer T) (its : Serving C) (stations : List S) (others : TickerAndConsole T C L) (result : Option (AllWork S T C L)) → others.pacer_seat.actor ≡ length stations → others.console_seat.actor ≡ length stations + 1
+    → IfSome result (λ all. AllDone serving 0 stations all.carriers.items) → IfSome result (λ all. IsTicked pacing others.pacer_seat.actor others.pacer all.ticker) → IfSome result (λ all. IsWorkDone its others.console_seat.actor others.console all.console)
+    → IfSome result (AllWorked serving pacing its stations others.pacer others.console)
+all_worked serving pacing its stations others None first second carriers ticker last = tt
+all_worked serving pacing its stations others (Some all) first second carriers ticker last =
+    let P : ℕ → Type 0 = λ n. IsTicked pacing n others.pacer all.ticker in
+    let Q : ℕ → Type 0 = λ n. IsWorkDone its n others.console all.console in
+    record { carriers = carriers; ticker = subst P first ticker; last = subst Q second last }

@@ -1,6 +1,6 @@
 -- Stations of a plan, and faults.
 use Rattle.std.proofs.Common.{◌≡◌, ℕ, zero, suc, ◌+◌, ◌≤◌, Bool, true, false, cond, List, [], ◌∷◌, Option, Some, None, Result, Ok, Err, length, map, refl, sym, ◌∙◌, ap, arith}
-use Rattle.std.specs.Prelude.{IfOk, IfErr, OnOk}
+use Rattle.std.specs.Prelude.{IfErr, OnOk}
 use Rattle.std.proofs.lemmas.Bool.{false≢true}
 use Rattle.std.proofs.lemmas.List.{length-map}
 use Rattle.dmr_core.specs.Facts.{has_carrier}
@@ -9,7 +9,7 @@ use Rattle.dmr_desk.specs.declared.fault.TermFault.{TermFault}
 use Rattle.dmr_desk.specs.declared.fault.TermFault.TheVariants.{BadStations, Open, NoThread, Audit, Early}
 use Rattle.dmr_desk.specs.Opening.{IsLimit}
 use Rattle.dmr_desk.specs.Term.{Start, End}
-use Rattle.dmr_desk.specs.Refusing.{AreStations, IsEndAt, IsFaultFor, IsTermFault, is_late, carrier_of_peer, numbers_from, carrier_numbers, left_at, starts_threads}
+use Rattle.dmr_desk.specs.Refusing.{AreStations, IsEndAt, IsFaultFor, IsTermFault, is_late, carrier_of_peer, numbers_from, carrier_numbers, left_at}
 use Rattle.dmr_desk.specs.Work.{StationState}
 
 -- ---- the plan's numbers
@@ -61,19 +61,12 @@ late_fault start (Audit why) (Some end) is late at = (is, end, at)
 late_fault start (Early actor) (Some end) is late at = (is, end, at)
 
 -- such a fault comes after threads were started, so nothing is left of the arguments
-pub late_starts : (fault : TermFault) → is_late fault ≡ true → starts_threads fault ≡ true
-late_starts BadStations late = absurd (false≢true late)
-late_starts (Open fault) late = absurd (false≢true late)
-late_starts NoThread late = refl
-late_starts (Audit fault) late = refl
-late_starts (Early actor) late = refl
-
-pub nothing_left : {A : Type 0} (fault : TermFault) (given : A) → starts_threads fault ≡ true → None ≡ left_at fault given
-nothing_left BadStations given e = absurd cc
-nothing_left (Open fault) given e = absurd cc
-nothing_left NoThread given e = refl
-nothing_left (Audit fault) given e = refl
-nothing_left (Early actor) given e = refl
+pub nothing_left : {A : Type 0} (fault : TermFault) (given : A) → is_late fault ≡ true → None ≡ left_at fault given
+nothing_left BadStations given late = absurd (false≢true late)
+nothing_left (Open fault) given late = absurd (false≢true late)
+nothing_left NoThread given late = refl
+nothing_left (Audit fault) given late = refl
+nothing_left (Early actor) given late = refl
 
 with_stations : (start : Start) (fault : TermFault) → AreStations start.site.plan start.stations → IsFaultFor start fault → IsTermFault start fault
 with_stations start BadStations are h = absurd h
@@ -89,15 +82,3 @@ fault_result start (Err e) fault are h = with_stations start (fault e) are h
 pub on_ok : {T E : Type 0} (result : Result T E) (P : Type 0) → P → OnOk result P
 on_ok (Ok t) P p = p
 on_ok (Err e) P p = tt
-
-pub if_ok_map : {T E : Type 0} (result : Result T E) (P Q : T → Type 0) → ((t : T) → P t → Q t) → IfOk result P → IfOk result Q
-if_ok_map (Ok t) P Q f h = f t h
-if_ok_map (Err e) P Q f h = tt
-
-pub if_err_map : {T E : Type 0} (result : Result T E) (P Q : E → Type 0) → ((e : E) → P e → Q e) → IfErr result P → IfErr result Q
-if_err_map (Ok t) P Q f h = tt
-if_err_map (Err e) P Q f h = f e h
-
-pub if_err_both : {T E : Type 0} (result : Result T E) (P Q R : E → Type 0) → ((e : E) → P e → Q e → R e) → IfErr result P → IfErr result Q → IfErr result R
-if_err_both (Ok t) P Q R f h k = tt
-if_err_both (Err e) P Q R f h k = f e h k

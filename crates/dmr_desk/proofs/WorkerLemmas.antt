@@ -13,7 +13,7 @@ use Rattle.dmr_link.specs.Passages.{Passage, Passes}
 use Rattle.dmr_link.specs.Peers.{is_going}
 use Rattle.dmr_link.specs.Questions.{Questioned}
 use Rattle.dmr_link.specs.Recorded.{sessions_after_silence}
-use Rattle.dmr_link.specs.Sessions.{How, Going, InputOver, ReadFaulty, WriteFaulty, CutAfter, how_then, Session, new_session, with_how, with_calls, Progress, progress_at, in_writing, octets_taken, progress_after_answer, progress_after_answers, IsQuiet, IsOver, HasPast, sessions_after, is_kept, is_lost, how_cut, cut_past, EndsAs, Sides, Happens, Serves, Cuts}
+use Rattle.dmr_link.specs.Sessions.{How, Going, InputOver, ReadFaulty, WriteFaulty, CutAfter, how_then, Session, new_session, with_how, with_calls, Progress, progress_at, in_writing, octets_taken, progress_after_answer, progress_after_answers, IsQuiet, IsOver, HasPast, sessions_after, is_kept, is_lost, how_cut, cut_past, EndsAs, Happens, Serves, Cuts}
 use Rattle.dmr_link.specs.LinkSteps.{is_live}
 use Rattle.dmr_link.proofs.LinkLaws.{dead_over, over_dead, happens_none, happens_more}
 use Rattle.dmr_desk.specs.declared.ending.Ending.TheVariants as ending

@@ -1,9 +1,9 @@
 -- The work of all workers is a term.
 use Rattle.std.proofs.Common.{◌≡◌, ℕ, zero, suc, ◌+◌, ◌≤◌, ◌<◌, ltb, Bool, true, false, if◌then◌else◌, List, [], ◌∷◌, ◌++◌, Option, Some, None, length, map, slice_get, refl, sym, ◌∙◌, ap, subst, arith, length-append}
-use Rattle.std.specs.Prelude.{◌≢◌, All, Contains}
+use Rattle.std.specs.Prelude.{◌≢◌, Contains}
 use Rattle.std.proofs.lemmas.Bool.Decides.{nat_tests}
 use Rattle.std.proofs.lemmas.List.{length-map}
-use Rattle.std.proofs.lemmas.List.Elements.{Contains-append_right, All-tail, All-head}
+use Rattle.std.proofs.lemmas.List.Elements.{Contains-append_right}
 use Rattle.dmr_link.specs.declared.desk.Deposit.{Deposit}
 use Rattle.dmr_desk.specs.declared.ending.Ending.{Ending}
 use Rattle.dmr_desk.specs.declared.ending.Ending.TheVariants as ending
@@ -13,11 +13,16 @@ use Rattle.dmr_desk.specs.declared.fault.CloseFault.TheVariants.{SeatMissing, Di
 use Rattle.dmr_desk.specs.declared.fault.TermFault.TheVariants.{Audit}
 use Rattle.dmr_desk.specs.Audited.{IsAudited, IsKept, IsUnreported}
 use Rattle.dmr_desk.specs.BookState.{AreOfActors}
+use Rattle.dmr_desk.specs.declared.actors.LinkWork.{LinkWork}
+use Rattle.dmr_desk.specs.declared.pace.Pacer.{Ghosts as Pacer}
+use Rattle.dmr_desk.specs.declared.station.Serving.{Ghosts as Serving}
+use Rattle.dmr_desk.specs.declared.threads.AllWork.{AllWork}
+use Rattle.dmr_desk.specs.Crew.{AllDone, AllWorked, start_of}
 use Rattle.dmr_desk.specs.Pace.{Paced}
 use Rattle.dmr_desk.specs.Refusing.{IsEarly, IsLate, first_over, early_actor}
 use Rattle.dmr_desk.specs.Seats.{SeatState, Opened, HasSeat}
 use Rattle.dmr_desk.specs.Work.{StationState}
-use Rattle.dmr_desk.specs.Term.{HasWorked, HasTicked, Start, End, start_of_term, end_of_term, HasEnded, HasRun, IsTerm, Done, IsWorkDone, AllDone, IsTicked}
+use Rattle.dmr_desk.specs.Term.{HasWorked, HasTicked, Start, End, end_of_term, HasEnded, HasRun, IsTerm}
 use Rattle.dmr_desk.proofs.CrewLemmas.{all_done_length}
 
 -- ---- each seat's deposits are the view of its actor
@@ -69,18 +74,18 @@ ticked_as before after v v1 e e1 c d h =
 view_is : (views : List (List Deposit)) (seat : SeatState) (actor : ℕ) (view : List Deposit) → slice_get views seat.actor ≡ Some seat.deposits → seat.actor ≡ actor → slice_get views actor ≡ Some view → seat.deposits ≡ view
 view_is views seat actor view its own seen = same_some seat.deposits view (sym its ∙ ap (λ (k : ℕ). slice_get views k) own ∙ seen)
 
-carriers_at : (ss : List StationState) (ds : List Done) (rest : List Ending) (others : List SeatState) (views : List (List Deposit)) (n k : ℕ) (s t : StationState) (e : Ending) (view : List Deposit) → AllDone n ss ds
-    → AllViews views (map (λ d. d.seat) ds ++ others) → slice_get ss k ≡ Some s → slice_get (map (λ d. d.at) ds) k ≡ Some t → slice_get (map (λ d. d.ending) ds ++ rest) k ≡ Some e → slice_get views (n + k) ≡ Some view
+carriers_at : {S L : Type 0} (serving : Serving S) (ss : List S) (ws : List (LinkWork S L)) (rest : List Ending) (others : List SeatState) (views : List (List Deposit)) (n k : ℕ) (s t : StationState) (e : Ending) (view : List Deposit) → AllDone serving n ss ws
+    → AllViews views (map (λ w. w.seat) ws ++ others) → slice_get (map serving.state ss) k ≡ Some s → slice_get (map serving.state (map (λ w. w.station) ws)) k ≡ Some t → slice_get (map (λ w. w.ending) ws ++ rest) k ≡ Some e → slice_get views (n + k) ≡ Some view
     → HasWorked s t view e
-carriers_at [] ds rest others views n k s t e view all vs gs gt ge gv = absurd cc
-carriers_at (x ∷ ss) [] rest others views n k s t e view all vs gs gt ge gv = absurd all
-carriers_at (x ∷ ss) (d ∷ ds) rest others views n zero s t e view all vs gs gt ge gv =
-    let number : d.seat.actor ≡ n + zero = let z : n ≡ n + 0 = omega arith in all.0.0 ∙ z in
-    worked_as x s d.at t d.seat.deposits view d.ending e (same_some x s gs) (same_some d.at t gt) (view_is views d.seat (n + zero) view vs.0 number gv) (same_some d.ending e ge) all.0.1
-carriers_at (x ∷ ss) (d ∷ ds) rest others views n (suc k) s t e view all vs gs gt ge gv =
+carriers_at serving [] ws rest others views n k s t e view all vs gs gt ge gv = absurd cc
+carriers_at serving (x ∷ ss) [] rest others views n k s t e view all vs gs gt ge gv = absurd all
+carriers_at serving (x ∷ ss) (w ∷ ws) rest others views n zero s t e view all vs gs gt ge gv =
+    let number : w.seat.actor ≡ n + zero = let z : n ≡ n + 0 = omega arith in all.0.own ∙ z in
+    worked_as (serving.state x) s (serving.state w.station) t w.seat.deposits view w.ending e (same_some (serving.state x) s gs) (same_some (serving.state w.station) t gt) (view_is views w.seat (n + zero) view vs.0 number gv) (same_some w.ending e ge) all.0.worked
+carriers_at serving (x ∷ ss) (w ∷ ws) rest others views n (suc k) s t e view all vs gs gt ge gv =
     let m : n + suc k ≡ n + 1 + k = omega arith in
     let P : ℕ → Type 0 = λ i. slice_get views i ≡ Some view in
-    carriers_at ss ds rest others views (n + 1) k s t e view all.1 vs.1 gs gt ge (subst P m gv)
+    carriers_at serving ss ws rest others views (n + 1) k s t e view all.1 vs.1 gs gt ge (subst P m gv)
 
 -- ---- who ended early
 
@@ -118,23 +123,15 @@ below_limit : (b : Bool) (entries limit : ℕ) (es : List Ending) (k : ℕ) → 
 below_limit true entries limit es k e h = (grind (arith, nat_tests), first_at 0 k es h)
 below_limit false entries limit es k e h = absurd cc
 
--- ---- the results, split
-
-pub map_same : {W S X D : Type 0} (f : S → X) (a : W → S) (p : D → X) (h : W → D) (ws : List W) → ((w : W) → f (a w) ≡ p (h w)) → map f (map a ws) ≡ map p (map h ws)
-map_same f a p h [] e = refl
-map_same f a p h (w ∷ ws) e = let t = map_same f a p h ws e in let q = e w in cc
-
-pub map_parts : {W X D : Type 0} (a : W → X) (p : D → X) (h : W → D) (ws : List W) → ((w : W) → a w ≡ p (h w)) → map a ws ≡ map p (map h ws)
-map_parts a p h [] e = refl
-map_parts a p h (w ∷ ws) e = let t = map_parts a p h ws e in let q = e w in cc
+-- ---- shut gates
 
 -- if a worker ended at a shut gate, its station's gate was shut
-pub shut_at : {W S : Type 0} (station : W → S) (ending_of : W → Ending) (shut : S → Type 0) (ws : List W) (rest : List Ending)
-    → All (λ w. ending_of w ≡ ending.GateShut → shut (station w)) ws → (k : ℕ) (s : S) → slice_get (map station ws) k ≡ Some s → slice_get (map ending_of ws ++ rest) k ≡ Some ending.GateShut → shut s
-shut_at station ending_of shut [] rest all k s gs ge = absurd cc
-shut_at station ending_of shut (w ∷ ws) rest all zero s gs ge =
-    subst shut (same_some (station w) s gs) (All-head (λ x. ending_of x ≡ ending.GateShut → shut (station x)) w ws all (same_some (ending_of w) ending.GateShut ge))
-shut_at station ending_of shut (w ∷ ws) rest all (suc k) s gs ge = shut_at station ending_of shut ws rest (All-tail (λ x. ending_of x ≡ ending.GateShut → shut (station x)) w ws all) k s gs ge
+pub shut_at : {S L : Type 0} (serving : Serving S) (n : ℕ) (ss : List S) (ws : List (LinkWork S L)) (rest : List Ending) → AllDone serving n ss ws → (k : ℕ) (s : S) → slice_get (map (λ w. w.station) ws) k ≡ Some s
+    → slice_get (map (λ w. w.ending) ws ++ rest) k ≡ Some ending.GateShut → serving.shut s
+shut_at serving n ss [] rest all k s gs ge = absurd cc
+shut_at serving n [] (w ∷ ws) rest all k s gs ge = absurd all
+shut_at serving n (x ∷ ss) (w ∷ ws) rest all zero s gs ge = subst serving.shut (same_some w.station s gs) (all.0.shut (same_some w.ending ending.GateShut ge))
+shut_at serving n (x ∷ ss) (w ∷ ws) rest all (suc k) s gs ge = shut_at serving (n + 1) ss ws rest all.1 k s gs ge
 
 -- the last ending
 pub last_shut : {W : Type 0} (ending_of : W → Ending) (ws : List W) (first last : Ending) (n : ℕ) → length ws ≡ n → slice_get (map ending_of ws ++ first ∷ last ∷ []) (n + 1) ≡ Some ending.GateShut → last ≡ ending.GateShut
@@ -146,49 +143,58 @@ last_shut ending_of ws first last n count g =
 
 -- ---- the whole
 
-pub has_ended : (desk : Opened) (seats : List SeatState) (report : Report) (ends : List Ending) (stations ss : List StationState) (ds : List Done) (before after : Option Paced) (ts : SeatState) (te : Ending) (s : StationState) (d : Done)
-    → IsKept desk seats report → seats ≡ map (λ d. d.seat) ds ++ ts ∷ d.seat ∷ [] → ends ≡ map (λ d. d.ending) ds ++ te ∷ d.ending ∷ [] → stations ≡ map (λ d. d.at) ds
-    → AllDone 0 ss ds → IsTicked (length ss) before after ts te → IsWorkDone (length ss + 1) s d
-    → HasEnded (start_of_term desk.site desk.limit ss before s) (end_of_term report ends stations after d.at)
-has_ended desk seats report ends stations ss ds before after ts te s d is es ee et all ticked worked =
+-- these are the seats, the endings and the stations of all results
+pub record AreOf {S T C L : Type 0} (all : AllWork S T C L) (seats : List SeatState) (ends : List Ending) (stations : List S) : Type 0 where
+  pub seats_are : seats ≡ map (λ w. w.seat) all.carriers.items ++ all.ticker.seat ∷ all.console.seat ∷ []
+  pub ends_are : ends ≡ map (λ w. w.ending) all.carriers.items ++ all.ticker.ending ∷ all.console.ending ∷ []
+  pub stations_are : stations ≡ map (λ w. w.station) all.carriers.items
+
+pub has_ended : {S T C L : Type 0} (serving : Serving S) (pacing : Pacer T) (its : Serving C) (desk : Opened) (ss : List S) (pacer : T) (console : C) (all : AllWork S T C L) (seats : List SeatState) (report : Report) (ends : List Ending) (stations : List S)
+    → IsKept desk seats report → AreOf all seats ends stations → AllWorked serving pacing its ss pacer console all
+    → HasEnded (start_of serving pacing its desk ss pacer console) (end_of_term report ends (map serving.state stations) (pacing.paced all.ticker.pacer) (its.state all.console.station))
+has_ended {S = S} serving pacing its desk ss pacer console all seats report ends stations is are worked =
     let views : List (List Deposit) = report.views.items in
-    let n : length ds ≡ length ss = all_done_length 0 ss ds all in
-    let ne : length (map (λ (x : Done). x.ending) ds) ≡ length ss = length-map ds (λ (x : Done). x.ending) ∙ n in
-    let nt : length (map (λ (x : Done). x.at) ds) ≡ length ss = length-map ds (λ (x : Done). x.at) ∙ n in
-    let ns : length (map (λ (x : Done). x.seat) ds) ≡ length ss = length-map ds (λ (x : Done). x.seat) ∙ n in
+    let ws = all.carriers.items in
+    let ts = all.ticker.seat in
+    let d = all.console in
+    let before = map serving.state ss in
+    let m : length before ≡ length ss = length-map ss serving.state in
+    let n : length ws ≡ length before = all_done_length serving 0 ss ws worked.carriers ∙ sym m in
+    let ne : length (map (λ w. w.ending) ws) ≡ length before = length-map ws (λ w. w.ending) ∙ n in
+    let nt : length (map serving.state (map (λ w. w.station) ws)) ≡ length before = length-map (map (λ w. w.station) ws) serving.state ∙ length-map ws (λ w. w.station) ∙ n in
+    let ns : length (map (λ w. w.seat) ws) ≡ length before = length-map ws (λ w. w.seat) ∙ n in
     let V : List SeatState → Type 0 = AllViews views in
-    let vs : AllViews views (map (λ x. x.seat) ds ++ ts ∷ d.seat ∷ []) = subst V es (views_all views seats is.gathered.each) in
-    let last : AllViews views (ts ∷ d.seat ∷ []) = views_end views (map (λ x. x.seat) ds) (ts ∷ d.seat ∷ []) vs in
+    let vs : AllViews views (map (λ w. w.seat) ws ++ ts ∷ d.seat ∷ []) = subst V are.seats_are (views_all views seats is.gathered.each) in
+    let last : AllViews views (ts ∷ d.seat ∷ []) = views_end views (map (λ w. w.seat) ws) (ts ∷ d.seat ∷ []) vs in
     record {
       legal = is.journal.kept.legal;
       safe = is.safe;
       within = is.journal.kept.within;
       site = is.site;
-      actors = is.gathered.as_many ∙ ap length es ∙ length-append (map (λ (x : Done). x.seat) ds) (ts ∷ d.seat ∷ []) ∙ ap (λ (k : ℕ). k + 2) ns;
+      actors = is.gathered.as_many ∙ ap length are.seats_are ∙ length-append (map (λ w. w.seat) ws) (ts ∷ d.seat ∷ []) ∙ ap (λ (k : ℕ). k + 2) ns;
       counted = is.journal.counted ∙ sym is.counted;
       nobody = let K : ℕ → Type 0 = λ n. AreOfActors n report.journal in subst K (sym is.actors) is.journal.known;
-      handed_back = ap length et ∙ nt;
+      handed_back = ap (λ xs. length (map serving.state xs)) are.stations_are ∙ nt;
       carriers = λ k a b e view ga gb ge gv.
-          let Q : List StationState → Type 0 = λ xs. slice_get xs k ≡ Some b in
+          let Q : List S → Type 0 = λ xs. slice_get (map serving.state xs) k ≡ Some b in
           let R : List Ending → Type 0 = λ xs. slice_get xs k ≡ Some e in
-          let m : k ≡ 0 + k = omega arith in
+          let z : k ≡ 0 + k = omega arith in
           let P : ℕ → Type 0 = λ i. slice_get views i ≡ Some view in
-          carriers_at ss ds (te ∷ d.ending ∷ []) (ts ∷ d.seat ∷ []) views 0 k a b e view all vs ga (subst Q et gb) (subst R ee ge) (subst P m gv);
+          carriers_at serving ss ws (all.ticker.ending ∷ d.ending ∷ []) (ts ∷ d.seat ∷ []) views 0 k a b e view worked.carriers vs ga (subst Q are.stations_are gb) (subst R are.ends_are ge) (subst P z gv);
       ticker = λ e view g gv.
-          let got : slice_get ends (length ss) ≡ Some te = rw (ee, ← ne) (get_end (map (λ (x : Done). x.ending) ds) te (d.ending ∷ [])) in
-          ticked_as before after ts.deposits view te e (view_is views ts (length ss) view last.0 ticked.0 gv) (same_some te e (sym got ∙ g)) ticked.1;
+          let got : slice_get ends (length before) ≡ Some all.ticker.ending = rw (are.ends_are, ← ne) (get_end (map (λ w. w.ending) ws) all.ticker.ending (d.ending ∷ [])) in
+          ticked_as (pacing.paced pacer) (pacing.paced all.ticker.pacer) ts.deposits view all.ticker.ending e (view_is views ts (length before) view last.0 (worked.ticker.own ∙ sym m) gv) (same_some all.ticker.ending e (sym got ∙ g)) worked.ticker.ticked;
       console = λ e view g gv.
-          let got : slice_get ends (length ss + 1) ≡ Some d.ending = rw (ee, ← ne) (get_next (map (λ (x : Done). x.ending) ds) te d.ending []) in
-          worked_as s s d.at d.at d.seat.deposits view d.ending e refl refl (view_is views d.seat (length ss + 1) view last.1.0 worked.0 gv) (same_some d.ending e (sym got ∙ g)) worked.1;
-      all_ended = ap length ee ∙ length-append (map (λ (x : Done). x.ending) ds) (te ∷ d.ending ∷ []) ∙ ap (λ (k : ℕ). k + 2) ne;
+          let got : slice_get ends (length before + 1) ≡ Some d.ending = rw (are.ends_are, ← ne) (get_next (map (λ w. w.ending) ws) all.ticker.ending d.ending []) in
+          worked_as (its.state console) (its.state console) (its.state d.station) (its.state d.station) d.seat.deposits view d.ending e refl refl (view_is views d.seat (length before + 1) view last.1.0 (worked.last.own ∙ ap (λ (k : ℕ). k + 1) (sym m)) gv) (same_some d.ending e (sym got ∙ g)) worked.last.worked;
+      all_ended = ap length are.ends_are ∙ length-append (map (λ w. w.ending) ws) (all.ticker.ending ∷ d.ending ∷ []) ∙ ap (λ (k : ℕ). k + 2) ne;
     }
 
-pub has_run : (desk : Opened) (seats : List SeatState) (report : Report) (ends : List Ending) (stations ss : List StationState) (ds : List Done) (before after : Option Paced) (ts : SeatState) (te : Ending) (s : StationState) (d : Done)
-    → IsAudited desk seats report → seats ≡ map (λ d. d.seat) ds ++ ts ∷ d.seat ∷ [] → ends ≡ map (λ d. d.ending) ds ++ te ∷ d.ending ∷ [] → stations ≡ map (λ d. d.at) ds
-    → AllDone 0 ss ds → IsTicked (length ss) before after ts te → IsWorkDone (length ss + 1) s d
-    → HasRun (start_of_term desk.site desk.limit ss before s) (end_of_term report ends stations after d.at)
-has_run desk seats report ends stations ss ds before after ts te s d is es ee et all ticked worked =
-    record { ended = has_ended desk seats report ends stations ss ds before after ts te s d is.kept es ee et all ticked worked; views = is.same }
+pub has_run : {S T C L : Type 0} (serving : Serving S) (pacing : Pacer T) (its : Serving C) (desk : Opened) (ss : List S) (pacer : T) (console : C) (all : AllWork S T C L) (seats : List SeatState) (report : Report) (ends : List Ending) (stations : List S)
+    → IsAudited desk seats report → AreOf all seats ends stations → AllWorked serving pacing its ss pacer console all
+    → HasRun (start_of serving pacing its desk ss pacer console) (end_of_term report ends (map serving.state stations) (pacing.paced all.ticker.pacer) (its.state all.console.station))
+has_run serving pacing its desk ss pacer console all seats report ends stations is are worked =
+    record { ended = has_ended serving pacing its desk ss pacer console all seats report ends stations is.kept are worked; views = is.same }
 
 -- if no worker ended early, it is a term
 pub is_term : (start : Start) (end : End) → HasRun start end → early_actor (length end.journal) start.limit end.ends ≡ None → IsTerm start end
@@ -208,20 +214,20 @@ is_early start end actor run early =
 
 -- ---- the seats
 
-abbrev AreOf : ℕ → List SeatState → Type 0
-AreOf n [] = Unit {0}
-AreOf n (x ∷ xs) = (x.actor ≡ n) × AreOf (n + 1) xs
+abbrev AreFrom : ℕ → List SeatState → Type 0
+AreFrom n [] = Unit {0}
+AreFrom n (x ∷ xs) = (x.actor ≡ n) × AreFrom (n + 1) xs
 
-of_all : (n : ℕ) (ss : List StationState) (ds : List Done) (x y : SeatState) → AllDone n ss ds → x.actor ≡ n + length ss → y.actor ≡ n + length ss + 1 → AreOf n (map (λ d. d.seat) ds ++ x ∷ y ∷ [])
-of_all n [] [] x y all ex ey = (omega arith, (omega arith, tt))
-of_all n (s ∷ ss) (d ∷ ds) x y all ex ey = (all.0.0, of_all (n + 1) ss ds x y all.1 (omega arith) (omega arith))
-of_all n [] (d ∷ ds) x y all ex ey = absurd all
-of_all n (s ∷ ss) [] x y all ex ey = absurd all
+from_all : {S L : Type 0} (serving : Serving S) (n : ℕ) (ss : List S) (ws : List (LinkWork S L)) (x y : SeatState) → AllDone serving n ss ws → x.actor ≡ n + length ss → y.actor ≡ n + length ss + 1 → AreFrom n (map (λ w. w.seat) ws ++ x ∷ y ∷ [])
+from_all serving n [] [] x y all ex ey = (omega arith, (omega arith, tt))
+from_all serving n (s ∷ ss) (w ∷ ws) x y all ex ey = (all.0.own, from_all serving (n + 1) ss ws x y all.1 (omega arith) (omega arith))
+from_all serving n [] (w ∷ ws) x y all ex ey = absurd all
+from_all serving n (s ∷ ss) [] x y all ex ey = absurd all
 
 seat_after : (x : SeatState) (xs : List SeatState) (actor : ℕ) → HasSeat xs actor → HasSeat (x ∷ xs) actor
 seat_after x xs actor h = (h.0, Contains-append_right (x ∷ []) xs h.0 h.1, h.2)
 
-has_seat : (n i : ℕ) (xs : List SeatState) → AreOf n xs → i < length xs → HasSeat xs (n + i)
+has_seat : (n i : ℕ) (xs : List SeatState) → AreFrom n xs → i < length xs → HasSeat xs (n + i)
 has_seat n i [] of low = absurd (omega arith)
 has_seat n zero (x ∷ xs) of low = let z : n ≡ n + 0 = omega arith in (x, (0, omega arith, refl), of.0 ∙ z)
 has_seat n (suc i) (x ∷ xs) of low =
@@ -229,27 +235,28 @@ has_seat n (suc i) (x ∷ xs) of low =
     let P : ℕ → Type 0 = HasSeat (x ∷ xs) in subst P m (seat_after x xs (n + 1 + i) (has_seat (n + 1) i xs of.1 (omega arith)))
 
 -- no seat is missing
-none_missing : (seats : List SeatState) (ss : List StationState) (ds : List Done) (before after : Option Paced) (ts : SeatState) (te : Ending) (s : StationState) (d : Done) → seats ≡ map (λ d. d.seat) ds ++ ts ∷ d.seat ∷ []
-    → AllDone 0 ss ds → IsTicked (length ss) before after ts te → IsWorkDone (length ss + 1) s d → (actor : ℕ) → actor < length ds + 2 → HasSeat seats actor
-none_missing seats ss ds before after ts te s d es all ticked worked actor below =
-    let all_of : AreOf 0 (map (λ x. x.seat) ds ++ ts ∷ d.seat ∷ []) = of_all 0 ss ds ts d.seat all (let e = ticked.0 in omega arith) (let e = worked.0 in omega arith) in
-    let A : List SeatState → Type 0 = AreOf 0 in
-    let many : length seats ≡ length ds + 2 = ap length es ∙ length-append (map (λ (x : Done). x.seat) ds) (ts ∷ d.seat ∷ []) ∙ ap (λ (k : ℕ). k + 2) (length-map ds (λ (x : Done). x.seat)) in
+none_missing : {S T C L : Type 0} (serving : Serving S) (pacing : Pacer T) (its : Serving C) (ss : List S) (pacer : T) (console : C) (all : AllWork S T C L) (seats : List SeatState) → seats ≡ map (λ w. w.seat) all.carriers.items ++ all.ticker.seat ∷ all.console.seat ∷ []
+    → AllWorked serving pacing its ss pacer console all → (actor : ℕ) → actor < length all.carriers.items + 2 → HasSeat seats actor
+none_missing serving pacing its ss pacer console all seats es worked actor below =
+    let ws = all.carriers.items in
+    let ts = all.ticker.seat in
+    let last = all.console.seat in
+    let all_of : AreFrom 0 (map (λ w. w.seat) ws ++ ts ∷ last ∷ []) = from_all serving 0 ss ws ts last worked.carriers (let e = worked.ticker.own in omega arith) (let e = worked.last.own in omega arith) in
+    let A : List SeatState → Type 0 = AreFrom 0 in
+    let many : length seats ≡ length ws + 2 = ap length es ∙ length-append (map (λ w. w.seat) ws) (ts ∷ last ∷ []) ∙ ap (λ (k : ℕ). k + 2) (length-map ws (λ w. w.seat)) in
     let z : 0 + actor ≡ actor = omega arith in
     let P : ℕ → Type 0 = HasSeat seats in subst P z (has_seat 0 actor seats (subst A (sym es) all_of) (omega arith))
 
-pub none_is_missing : (desk : Opened) (seats : List SeatState) (fault : CloseFault) (ss : List StationState) (ds : List Done) (before after : Option Paced) (ts : SeatState) (te : Ending) (s : StationState) (d : Done)
-    → desk.actors ≡ length ds + 2 → IsUnreported desk seats fault None → seats ≡ map (λ d. d.seat) ds ++ ts ∷ d.seat ∷ []
-    → AllDone 0 ss ds → IsTicked (length ss) before after ts te → IsWorkDone (length ss + 1) s d → ⊥
-none_is_missing desk seats (SeatMissing actor) ss ds before after ts te s d actors why es all ticked worked =
-    why.1 (none_missing seats ss ds before after ts te s d es all ticked worked actor (let below = why.0 in omega arith))
-none_is_missing desk seats (Differs actor) ss ds before after ts te s d actors why es all ticked worked = why
+pub none_is_missing : {S T C L : Type 0} (serving : Serving S) (pacing : Pacer T) (its : Serving C) (desk : Opened) (ss : List S) (pacer : T) (console : C) (all : AllWork S T C L) (seats : List SeatState) (fault : CloseFault)
+    → desk.actors ≡ length all.carriers.items + 2 → IsUnreported desk seats fault None → seats ≡ map (λ w. w.seat) all.carriers.items ++ all.ticker.seat ∷ all.console.seat ∷ [] → AllWorked serving pacing its ss pacer console all → ⊥
+none_is_missing serving pacing its desk ss pacer console all seats (SeatMissing actor) actors why es worked =
+    why.1 (none_missing serving pacing its ss pacer console all seats es worked actor (let below = why.0 in omega arith))
+none_is_missing serving pacing its desk ss pacer console all seats (Differs actor) actors why es worked = why
 
 -- what a desk kept that has no report is a term of which a view differs
-pub is_unaudited : (desk : Opened) (seats : List SeatState) (fault : CloseFault) (report : Report) (ends : List Ending) (stations ss : List StationState) (ds : List Done) (before after : Option Paced) (ts : SeatState) (te : Ending) (s : StationState) (d : Done)
-    → IsUnreported desk seats fault (Some report) → seats ≡ map (λ d. d.seat) ds ++ ts ∷ d.seat ∷ [] → ends ≡ map (λ d. d.ending) ds ++ te ∷ d.ending ∷ [] → stations ≡ map (λ d. d.at) ds
-    → AllDone 0 ss ds → IsTicked (length ss) before after ts te → IsWorkDone (length ss + 1) s d
-    → IsLate (start_of_term desk.site desk.limit ss before s) (Audit fault) (end_of_term report ends stations after d.at)
-is_unaudited desk seats (Differs actor) report ends stations ss ds before after ts te s d why es ee et all ticked worked =
-    record { ended = has_ended desk seats report ends stations ss ds before after ts te s d why.0 es ee et all ticked worked; differs = why.1 }
-is_unaudited desk seats (SeatMissing actor) report ends stations ss ds before after ts te s d why es ee et all ticked worked = absurd why
+pub is_unaudited : {S T C L : Type 0} (serving : Serving S) (pacing : Pacer T) (its : Serving C) (desk : Opened) (ss : List S) (pacer : T) (console : C) (all : AllWork S T C L) (seats : List SeatState) (fault : CloseFault) (report : Report) (ends : List Ending) (stations : List S)
+    → IsUnreported desk seats fault (Some report) → AreOf all seats ends stations → AllWorked serving pacing its ss pacer console all
+    → IsLate (start_of serving pacing its desk ss pacer console) (Audit fault) (end_of_term report ends (map serving.state stations) (pacing.paced all.ticker.pacer) (its.state all.console.station))
+is_unaudited serving pacing its desk ss pacer console all seats (Differs actor) report ends stations why are worked =
+    record { ended = has_ended serving pacing its desk ss pacer console all seats report ends stations why.0 are worked; differs = why.1 }
+is_unaudited serving pacing its desk ss pacer console all seats (SeatMissing actor) report ends stations why are worked = absurd why

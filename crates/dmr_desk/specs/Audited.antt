@@ -8,6 +8,7 @@ use Rattle.dmr_desk.specs.declared.report.Report.{Report}
 use Rattle.dmr_desk.specs.declared.fault.CloseFault.{CloseFault}
 use Rattle.dmr_desk.specs.declared.fault.CloseFault.TheVariants.{SeatMissing, Differs}
 use Rattle.dmr_desk.specs.BookState.{AreOfActors, IsSoundBook, site_after_entries}
+use Rattle.dmr_desk.specs.Limits.{most_actors}
 use Rattle.dmr_desk.specs.Seats.{SeatState, Opened, HasSeat, NoneMissing}
 use Rattle.dmr_desk.specs.Views.{view_of, Follows}
 
@@ -68,8 +69,8 @@ pub record IsAudited (desk : Opened) (seats : List SeatState) (report : Report) 
   pub kept : IsKept desk seats report
   pub same : SameBelow (length report.views.items) report.views.items report.journal
 
--- why a desk has no report, and what it kept: a seat is missing, or a view differs from the journal's list; either names
--- the least such actor
+-- why a desk has no report, and what it kept. A seat is missing, or a view differs from the journal's list. Either fault
+-- names the least such actor
 abbrev pub IsUnreported : Opened → List SeatState → CloseFault → Option Report → Type 0
 IsUnreported desk seats (SeatMissing actor) None = IsLeastMissing seats desk.actors actor
 IsUnreported desk seats (Differs actor) (Some report) =
@@ -96,12 +97,22 @@ abbrev pub SameBetween : ℕ → ℕ → List (List Deposit) → List Entry → 
 SameBetween from to views journal =
     (actor : ℕ) → from ≤ actor → actor < to → slice_get views actor ≡ Some (view_of actor journal)
 
+-- each actor from one number to below another has a view, and is one that a desk may have
+pub record AreAmongViews (from to : ℕ) (views : List (List Deposit)) : Type 0 where
+  pub order : from ≤ to
+  pub within : to ≤ length views
+  pub few : to ≤ most_actors
+
 -- the least actor, from one number to below another, whose view differs from the journal's list for it; None: none does
 abbrev pub IsFirstDiffering : ℕ → ℕ → List (List Deposit) → List Entry → Option ℕ → Type 0
 IsFirstDiffering from to views journal None = SameBetween from to views journal
 IsFirstDiffering from to views journal (Some actor) =
     (from ≤ actor) × (actor < to) × (slice_get views actor ≢ Some (view_of actor journal))
     × SameBetween from actor views journal
+
+-- the least actor whose view differs from the journal's list for it
+abbrev pub IsLeastDiffering : Report → Option ℕ → Type 0
+IsLeastDiffering report = IsFirstDiffering 0 (length report.views.items) report.views.items report.journal
 
 -- the view of each actor from one number to below another follows the first entries of the journal, this many
 abbrev pub AllFollow : ℕ → ℕ → List (List Deposit) → List Entry → ℕ → List (Option ℕ) → Type 0

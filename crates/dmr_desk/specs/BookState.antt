@@ -13,6 +13,10 @@ pub record BookState : Type 0 where
   pub limit : ℕ  -- the most entries that it may have
   pub entries : List Entry  -- oldest first
 
+-- the book of this site and this limit, without entries
+abbrev pub empty_book : SiteState → ℕ → BookState
+empty_book site limit = record { opening = site; limit = limit; entries = [] }
+
 -- the site in the state that the entries lead to
 abbrev pub site_after_entries : SiteState → List Entry → SiteState
 site_after_entries opening entries =

@@ -9,6 +9,7 @@ pub mod Work
 pub mod Term
 pub mod Meaning
 pub mod Refusing
+pub mod Crew
 pub mod Service
 pub mod Terms
 pub mod Life

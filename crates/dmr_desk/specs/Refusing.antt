@@ -98,12 +98,6 @@ IsEndAt start fault None = is_late fault ≡ false
 
 -- ---- on the way
 
--- whether threads were started before a fault is found
-abbrev pub starts_threads : TermFault → Bool
-starts_threads BadStations = false
-starts_threads (Open fault) = false
-starts_threads other = true
-
 -- the first actor that ended because the term was over
 abbrev pub first_over : ℕ → List Ending → Option ℕ
 first_over n [] = None

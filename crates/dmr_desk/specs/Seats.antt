@@ -57,9 +57,13 @@ pub record Opened : Type 0 where
   pub limit : ℕ
   pub actors : ℕ
 
+-- the desk of this site, this limit and this number of actors
+abbrev pub opened : SiteState → ℕ → ℕ → Opened
+opened site limit actors = record { site = site; limit = limit; actors = actors }
+
 -- a desk that no call opens: a ledger names it if the call that makes the ledger picks no desk
 abbrev pub unopened : Opened
-unopened = record { site = record { plan = no_settings; facts = no_facts }; limit = 0; actors = 0 }
+unopened = opened (record { plan = no_settings; facts = no_facts }) 0 0
 
 -- this actor has a seat among these
 abbrev pub HasSeat : List SeatState → ℕ → Type 0

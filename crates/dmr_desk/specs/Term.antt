@@ -108,29 +108,6 @@ pub record IsTerm (start : Start) (end : End) : Type 0 where
 
 -- ---- on the way
 
--- the result of a link's worker: the state of its station, its seat, and why it ended
-pub record Done : Type 0 where
-  pub at : StationState
-  pub seat : SeatState
-  pub ending : Ending
-
-abbrev pub work_done : StationState → SeatState → Ending → Done
-work_done at seat e = record { at = at; seat = seat; ending = e }
-
--- the worker of this actor did its work
-abbrev pub IsWorkDone : ℕ → StationState → Done → Type 0
-IsWorkDone actor s d = (d.seat.actor ≡ actor) × HasWorked s d.at d.seat.deposits d.ending
-
--- the workers of the actors from this number on did their work
-abbrev pub AllDone : ℕ → List StationState → List Done → Type 0
-AllDone actor [] [] = Unit {0}
-AllDone actor (s ∷ ss) (d ∷ ds) = IsWorkDone actor s d × AllDone (actor + 1) ss ds
-AllDone actor ss ds = ⊥
-
--- the ticker, as this actor, did its work
-abbrev pub IsTicked : ℕ → Option Paced → Option Paced → SeatState → Ending → Type 0
-IsTicked actor before after seat e = (seat.actor ≡ actor) × HasTicked before after seat.deposits e
-
 -- a seat of this actor, without deposits
 abbrev pub IsNew : ℕ → SeatState → Type 0
 IsNew actor seat = (seat.actor ≡ actor) × (seat.deposits ≡ [])

@@ -2,7 +2,10 @@
 use Rattle.std.specs.Prelude.{◌≡◌, ◌≤◌, ◌+◌, ◌⊎◌, ℕ, true, List, [], ◌∷◌, ◌++◌, Option, Some, None}
 use Rattle.std.specs.Prelude.{length, map}
 use Rattle.dmr_wire.specs.Answers.{Answer, Opened, NotYet, Finished, Again, Silent, Reports}
+use Rattle.dmr_core.specs.declared.event.Event.{Event}
 use Rattle.dmr_link.specs.declared.desk.Deposit.{Deposit}
+use Rattle.dmr_link.specs.declared.desk.Desk.{Ghosts as Desk}
+use Rattle.dmr_link.specs.declared.desk.TermOver.{TermOver}
 use Rattle.dmr_link.specs.declared.ended.Ended.{Ended}
 use Rattle.dmr_link.specs.declared.ended.Ended.TheVariants as ended
 use Rattle.dmr_link.specs.declared.stream.Peer.{Peer}
@@ -33,8 +36,8 @@ pub record StationState : Type 0 where
 abbrev pub station_state : LinkState → Option (List Answer) → Option (List Passage) → StationState
 station_state link reported passed = record { link = link; reported = reported; passed = passed }
 
--- a station's state, the desk's deposits so far, and how often the desk was asked whether the term is over, if it counts
--- the questions
+-- a station's state, the desk's deposits so far, and how often the desk was asked whether the term is over. The last is
+-- None if the desk does not count the questions
 pub record WorkState : Type 0 where
   pub at : StationState
   pub calls : List Deposit
@@ -231,12 +234,23 @@ AsksForEach before doings ending.TermOver after =
     ⊎ (WasRefused doings × Questioned before (length doings) after)
 AsksForEach before doings e after = Questioned before (length doings) after
 
--- a worker's whole work: steps that lead from `m` to `n`, before each of which it asks the desk whether the term is over,
--- and which allow its ending
+-- a worker's whole work: steps that lead from `m` to `n` and allow its ending. Before each of them the worker asks the
+-- desk whether the term is over
 abbrev pub WorksUntil : WorkState → WorkState → Ending → Type 0
 WorksUntil m n e =
     (doings : List Step) × Steps m n doings × EndsFor e n.at.link doings
     × AsksForEach m.questions doings e n.questions
+
+-- ---- the desk said that the term is over
+
+-- the desk refused an event, and is as it then was
+abbrev pub HasRefused : {D : Type 0} → Desk D → D → Type 0
+HasRefused {D = D} its desk =
+    (before : D) × (event : Event) × (over : TermOver) × its.refuses before event over desk
+
+-- the last that the desk said was that the term is over: it refused an event, or was asked
+abbrev pub SaidOver : {D : Type 0} → Desk D → D → Type 0
+SaidOver {D = D} its desk = HasRefused its desk ⊎ ((before : D) × its.ends before desk)
 
 -- ---- on the way
 

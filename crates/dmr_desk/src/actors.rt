@@ -1,7 +1,7 @@
 //! The work of each actor at its seat.
 
 ghost use Rattle.std.specs.Prelude.{◌≡◌, []};
-ghost use Rattle.dmr_desk.specs.Term.{HasWorked, HasTicked, IsWorkDone, IsTicked, work_done};
+ghost use Rattle.dmr_desk.specs.Crew.{IsTicked, IsWorkDone};
 
 use crate::at::SeatAt;
 use crate::desk::SharedDesk;
@@ -42,11 +42,7 @@ pub struct TickerWork<T, L: DeskLedger> {
 pub struct LinkPromise<S>(pub Snapshot<S>, pub u8);
 
 impl<S: Serving, L: DeskLedger> Promise<LinkWork<S, L>> for LinkPromise<S> {
-    ghost use Rattle.dmr_desk.specs.declared.ending.Ending.TheVariants.{GateShut};
-
-    ghost kept_by = { λ p r. IsWorkDone p.1 (S.state p.0.value)
-        (work_done (S.state r.station) r.seat r.ending)
-        × (r.ending ≡ GateShut → S.shut r.station) };
+    ghost kept_by = { λ p r. IsWorkDone S.Serving p.1 p.0.value r };
 }
 
 /// The promise that the ticker does its work with this pacer, and a new seat of this actor.
@@ -54,7 +50,7 @@ impl<S: Serving, L: DeskLedger> Promise<LinkWork<S, L>> for LinkPromise<S> {
 pub struct TickerPromise<T>(pub Snapshot<T>, pub u8);
 
 impl<T: Pacer, L: DeskLedger> Promise<TickerWork<T, L>> for TickerPromise<T> {
-    ghost kept_by = { λ p r. IsTicked p.1 (T.paced p.0.value) (T.paced r.pacer) r.seat r.ending };
+    ghost kept_by = { λ p r. IsTicked T.Pacer p.1 p.0.value r };
 }
 
 /// Serves a station from a new seat. If the term is over, the station's port receives that.
@@ -65,9 +61,7 @@ pub fn work_from_seat<S: Serving, L: DeskLedger, R: Wait>(
     seat: Seat<L>,
 ) -> LinkWork<S, L>
     requires { seat.deposits ≡ [] }
-    ensures done { IsWorkDone seat.actor (S.state station)
-        (work_done (S.state result.station) result.seat result.ending) }
-    ensures shut { result.ending ≡ Ending.GateShut → S.shut result.station }
+    ensures { IsWorkDone S.Serving seat.actor station result }
 {
     let mut station = station;
     let mut at = SeatAt::new(rt, desk, seat);
@@ -90,7 +84,7 @@ pub fn tick_from_seat<T: Pacer, L: DeskLedger, R: Wait>(
     seat: Seat<L>,
 ) -> TickerWork<T, L>
     requires { seat.deposits ≡ [] }
-    ensures { IsTicked seat.actor (T.paced pacer) (T.paced result.pacer) result.seat result.ending }
+    ensures { IsTicked T.Pacer seat.actor pacer result }
 {
     let mut pacer = pacer;
     let mut at = SeatAt::new(rt, desk, seat);

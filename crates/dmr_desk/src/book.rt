@@ -1,9 +1,8 @@
 //! A site and the journal of its events.
 
-ghost use Rattle.std.specs.Prelude.{◌≡◌, ◌<◌, [], length, reverse, IsOk, IsTrue, ◌↔◌, IfOk, IfErr};
-ghost use Rattle.std.specs.Prelude.{OnOk};
+ghost use Rattle.std.specs.Prelude.{◌≡◌, ◌<◌, ◌↔◌, length, reverse, IsOk, IsTrue, IfOk, IfErr, OnOk};
 ghost use Rattle.dmr_link.specs.Runs.{IsSafe};
-ghost use Rattle.dmr_desk.specs.BookState.{IsSoundBook, answer_to, book_with_entry};
+ghost use Rattle.dmr_desk.specs.BookState.{IsSoundBook, answer_to, book_with_entry, empty_book};
 ghost use Rattle.dmr_desk.specs.BookState.{site_after_entries};
 
 use crate::report::Journal;
@@ -59,8 +58,7 @@ impl Book {
     /// Opens the book of a site, without entries. Its journal may have `limit` entries, and has room for them from the
     /// beginning. On an error an allocation was refused; the error returns the site unchanged.
     pub fn new(alloc: Global, site: Site, limit: usize) -> Result<Book, (OutOfMemory, Site)>
-        ensures ok { IfOk result
-            (λ book. book ≡ record { opening = site; limit = limit; entries = [] }) }
+        ensures ok { IfOk result (λ book. book ≡ empty_book site limit) }
         ensures err { IfErr result (λ fault. fault.1 ≡ site) }
     {
         let mut spare = SpareLists::new(alloc);
@@ -74,8 +72,7 @@ impl Book {
         limit: usize,
         spare: &mut SpareLists,
     ) -> Result<Book, (OutOfMemory, Site)>
-        ensures ok { IfOk result
-            (λ book. book ≡ record { opening = site; limit = limit; entries = [] }) }
+        ensures ok { IfOk result (λ book. book ≡ empty_book site limit) }
         ensures err { IfErr result (λ fault. fault.1 ≡ site) }
     {
         let Ok(opening) = site.try_clone(alloc) else {

@@ -1,12 +1,12 @@
 //! The desk: a book that a lock guards, and its seats.
 
 ghost use Rattle.std.specs.Prelude.{◌≡◌, ◌≤◌, ◌+◌, ◌↔◌, ◌⊎◌, length, true, false, IsTrue, IfOk};
-ghost use Rattle.std.specs.Prelude.{IfErr, IfSome, OnOk};
-ghost use Rattle.dmr_desk.specs.BookState.{AreOfActors, answer_to, book_with_entry};
-ghost use Rattle.dmr_desk.specs.Seats.{seat_with_deposit, empty_seats};
-ghost use Rattle.dmr_desk.specs.Limits.{most_actors};
-ghost use Rattle.dmr_desk.specs.Opening.{IsLimit, IsNumber, IsRefused};
+ghost use Rattle.std.specs.Prelude.{IfErr, OnOk};
 ghost use Rattle.dmr_desk.specs.Audited.{IsAudited, IsFault, IsKept, IsLeastMissing, IsUnreported};
+ghost use Rattle.dmr_desk.specs.BookState.{AreOfActors, answer_to, book_with_entry};
+ghost use Rattle.dmr_desk.specs.Limits.{most_actors};
+ghost use Rattle.dmr_desk.specs.Opening.{IsBlankFor, IsLimit, IsNumber, IsRefused};
+ghost use Rattle.dmr_desk.specs.Seats.{empty_seats, opened, seat_with_deposit};
 
 use crate::audit::{audit_report, first_differing_alone, first_differing_in_threads, gather_views};
 use crate::book::Book;
@@ -36,7 +36,7 @@ struct Locked<L: DeskLedger> {
     rest: Share<L>,
     actors: u8,
     abandoned: bool,
-    ghost of_desk: { L.desk ≡ record { site = book.opening; limit = book.limit; actors = actors } },
+    ghost of_desk: { L.desk ≡ opened book.opening book.limit actors },
     ghost counted: { length book.entries ≡ total.total },
     ghost known: { AreOfActors actors book.entries },
     ghost rest_is: { rest.parts + actors ≡ most_actors },
@@ -92,15 +92,13 @@ impl<L: DeskLedger> Locked<L> {
         self.abandoned = true;
     }
 
-    /// Returns what the desk kept: the site, the journal, and the view of each actor, moved out of its seat. The views are
-    /// not compared with the journal. The error is the least actor whose seat is missing.
+    /// Returns what the desk kept: the site, the journal, and the view of each actor, moved out of its seat. The views
+    /// are not compared with the journal. The error is the least actor whose seat is missing.
     fn gather(self, seats: Vec<Seat<L>>) -> Result<Report, u8>
         requires { L.parts ≡ most_actors }
-        ensures kept { IfOk result (λ kept. IsKept
-            (record { site = self.book.opening; limit = self.book.limit; actors = self.actors })
-            seats.items kept) }
+        ensures kept { IfOk result (IsKept L.desk seats.items) }
         ensures journal { IfOk result (λ kept. kept.journal ≡ self.book.entries) }
-        ensures missing { IfErr result (λ actor. IsLeastMissing seats.items self.actors actor) }
+        ensures missing { IfErr result (IsLeastMissing seats.items L.desk.actors) }
     {
         let Locked {
             book,
@@ -124,64 +122,6 @@ impl<L: DeskLedger> Locked<L> {
                 drop(book);
                 Err(actor)
             }
-        }
-    }
-
-    /// Returns the report of the book and these seats. On an error a seat is missing, and the error names the least
-    /// such actor. If none is missing, a seat differs from the journal of this book, and the error names the least such
-    /// actor, and has what the desk kept.
-    fn audit_seats(self, seats: Vec<Seat<L>>) -> Result<Report, Unreported>
-        requires { L.parts ≡ most_actors }
-        ensures ok { IfOk result (λ report. IsAudited
-            (record { site = self.book.opening; limit = self.book.limit; actors = self.actors })
-            seats.items report) }
-        ensures fault { IfErr result (λ unreported. IsUnreported
-            (record { site = self.book.opening; limit = self.book.limit; actors = self.actors })
-            seats.items unreported.fault unreported.kept) }
-        ensures journal { IfErr result (λ unreported. IfSome unreported.kept
-            (λ kept. kept.journal ≡ self.book.entries)) }
-    {
-        match self.gather(seats) {
-            Ok(kept) => {
-                let differing = first_differing_alone(&kept.views, kept.journal.as_slice());
-                audit_report(kept, differing)
-            }
-            Err(actor) => Err(Unreported {
-                fault: CloseFault::SeatMissing(actor),
-                kept: None,
-            }),
-        }
-    }
-
-    /// Does the same as [`audit_seats`](Locked::audit_seats). If the journal is long, several threads compare it.
-    fn audit_seats_in_threads<R: Threads + Sync>(
-        self,
-        rt: &R,
-        seats: Vec<Seat<L>>,
-    ) -> Result<Report, Unreported>
-        requires { L.parts ≡ most_actors }
-        ensures ok { IfOk result (λ report. IsAudited
-            (record { site = self.book.opening; limit = self.book.limit; actors = self.actors })
-            seats.items report) }
-        ensures fault { IfErr result (λ unreported. IsUnreported
-            (record { site = self.book.opening; limit = self.book.limit; actors = self.actors })
-            seats.items unreported.fault unreported.kept) }
-        ensures journal { IfErr result (λ unreported. IfSome unreported.kept
-            (λ kept. kept.journal ≡ self.book.entries)) }
-    {
-        match self.gather(seats) {
-            Ok(kept) => {
-                let differing = first_differing_in_threads(
-                    rt,
-                    &kept.views,
-                    kept.journal.as_slice(),
-                );
-                audit_report(kept, differing)
-            }
-            Err(actor) => Err(Unreported {
-                fault: CloseFault::SeatMissing(actor),
-                kept: None,
-            }),
         }
     }
 }
@@ -241,39 +181,10 @@ impl<L: DeskLedger> SharedDesk<L> {
         limit: usize,
         actors: u8,
     ) -> Result<(SharedDesk<L>, Vec<Seat<L>>), (OpenFault, Site)>
-        requires name { blank.name ≡ L.name }
-        requires parts { blank.parts ≡ L.parts }
-        requires eighteen { blank.parts ≡ most_actors }
-        requires desk { L.desk ≡ record { site = site; limit = limit; actors = actors } }
+        requires { IsBlankFor L.name L.parts L.desk (opened site limit actors) blank }
         ensures numbers { OnOk result (IsLimit limit × IsNumber actors) }
-        ensures desk { IfOk result
-            (λ opened. opened.0 ≡ record { site = site; limit = limit; actors = actors }) }
-        ensures seats { IfOk result (λ opened. opened.1.items ≡ empty_seats actors) }
-        ensures fault { IfErr result (λ refused. IsRefused limit actors refused.0) }
-        ensures site { IfErr result (λ refused. refused.1 ≡ site) }
-    {
-        let mut spare = SpareLists::new(alloc);
-        SharedDesk::<L>::open_with(alloc, blank, site, limit, actors, &mut spare)
-    }
-
-    /// Does the same as [`open`](SharedDesk::open). If lists with the room are kept, their memory is used. If the limit
-    /// is that of the term before, `OutOfMemory` loses none of them.
-    pub(crate) fn open_with(
-        alloc: Global,
-        blank: Blank,
-        site: Site,
-        limit: usize,
-        actors: u8,
-        spare: &mut SpareLists,
-    ) -> Result<(SharedDesk<L>, Vec<Seat<L>>), (OpenFault, Site)>
-        requires name { blank.name ≡ L.name }
-        requires parts { blank.parts ≡ L.parts }
-        requires eighteen { blank.parts ≡ most_actors }
-        requires desk { L.desk ≡ record { site = site; limit = limit; actors = actors } }
-        ensures numbers { OnOk result (IsLimit limit × IsNumber actors) }
-        ensures desk { IfOk result
-            (λ opened. opened.0 ≡ record { site = site; limit = limit; actors = actors }) }
-        ensures seats { IfOk result (λ opened. opened.1.items ≡ empty_seats actors) }
+        ensures desk { IfOk result (λ o. o.0 ≡ opened site limit actors) }
+        ensures seats { IfOk result (λ o. o.1.items ≡ empty_seats actors) }
         ensures fault { IfErr result (λ refused. IsRefused limit actors refused.0) }
         ensures site { IfErr result (λ refused. refused.1 ≡ site) }
     {
@@ -283,10 +194,34 @@ impl<L: DeskLedger> SharedDesk<L> {
         if actors == 0 || usize::from(actors) > MOST_ACTORS {
             return Err((OpenFault::BadActors, site));
         }
+        let mut spare = SpareLists::new(alloc);
+        match SharedDesk::<L>::open_with(alloc, blank, site, limit, actors, &mut spare) {
+            Ok(made) => Ok(made),
+            Err(site) => Err((OpenFault::OutOfMemory, site)),
+        }
+    }
+
+    /// Opens a desk as [`open`](SharedDesk::open) does, of a limit and a number of actors that are in range. If lists
+    /// with the room are kept, their memory is used. On an error an allocation was refused. If the limit is that of the
+    /// term before, none of the lists is then lost.
+    pub(crate) fn open_with(
+        alloc: Global,
+        blank: Blank,
+        site: Site,
+        limit: usize,
+        actors: u8,
+        spare: &mut SpareLists,
+    ) -> Result<(SharedDesk<L>, Vec<Seat<L>>), Site>
+        requires blank { IsBlankFor L.name L.parts L.desk (opened site limit actors) blank }
+        requires numbers { IsLimit limit × IsNumber actors }
+        ensures desk { IfOk result (λ o. o.0 ≡ opened site limit actors) }
+        ensures seats { IfOk result (λ o. o.1.items ≡ empty_seats actors) }
+        ensures site { IfErr result (λ back. back ≡ site) }
+    {
         let (total, mut rest) = blank.open::<L>();
         let book = match Book::with_lists(alloc, site, limit, spare) {
             Ok(book) => book,
-            Err((_, site)) => return Err((OpenFault::OutOfMemory, site)),
+            Err((_, site)) => return Err(site),
         };
         match seats_for(alloc, spare, &mut rest, limit, actors) {
             Ok(seats) => {
@@ -303,7 +238,7 @@ impl<L: DeskLedger> SharedDesk<L> {
             Err(_) => {
                 let (site, journal) = book.into_parts();
                 spare.keep_journal(journal);
-                Err((OpenFault::OutOfMemory, site))
+                Err(site)
             }
         }
     }
@@ -329,8 +264,8 @@ impl<L: DeskLedger> SharedDesk<L> {
         Ok(acts)
     }
 
-    /// Does the same as [`deposit`](SharedDesk::deposit). `acts` becomes the answer, whatever it was before. On an error
-    /// `acts` is unchanged too.
+    /// Does the same as [`deposit`](SharedDesk::deposit). `acts` becomes the answer, whatever it was before. On an
+    /// error `acts` is unchanged too.
     pub(crate) fn deposit_to<R: Wait>(
         &self,
         rt: &R,
@@ -372,36 +307,51 @@ impl<L: DeskLedger> SharedDesk<L> {
     /// differs from the journal, and the error names the least such actor. The site, the journal and the seats are then
     /// lost. If a seat differs, the clause cannot name the journal, which the lock guarded. It says of the journal that
     /// it is legal from the desk's site, within the desk's limit, has one entry for each deposit of all seats, and no
-    /// entry of anybody but the desk's actors. What is done under the lock names it (`Locked::audit_seats`).
+    /// entry of anybody but the desk's actors. What is done under the lock names it (`Locked::gather`).
     pub fn close<R: Wait>(self, _rt: &R, seats: Vec<Seat<L>>) -> Result<Report, CloseFault>
         requires { L.parts ≡ most_actors }
-        ensures ok { IfOk result (λ report. IsAudited self seats.items report) }
-        ensures fault { IfErr result (λ fault. IsFault self seats.items fault) }
+        ensures ok { IfOk result (IsAudited self seats.items) }
+        ensures fault { IfErr result (IsFault self seats.items) }
     {
         let SharedDesk { locked, .. } = self;
-        match locked.into_inner().audit_seats(seats) {
-            Ok(report) => Ok(report),
-            Err(unreported) => {
-                let Unreported { fault, kept } = unreported;
-                drop(kept);
-                Err(fault)
+        match locked.into_inner().gather(seats) {
+            Ok(kept) => {
+                let differing = first_differing_alone(&kept);
+                match audit_report(kept, differing) {
+                    Ok(report) => Ok(report),
+                    Err(unreported) => {
+                        let Unreported { fault, kept } = unreported;
+                        drop(kept);
+                        Err(fault)
+                    }
+                }
             }
+            Err(actor) => Err(CloseFault::SeatMissing(actor)),
         }
     }
 
-    /// Closes the desk as [`close`](SharedDesk::close) does. If the journal is long, several threads compare it with the
-    /// seats. The error also has what the desk kept, if no seat is missing.
+    /// Closes the desk as [`close`](SharedDesk::close) does. If the journal is long, several threads compare it with
+    /// the seats. The error also has what the desk kept, if no seat is missing.
     pub(crate) fn close_in_threads<R: Threads + Sync>(
         self,
         rt: &R,
         seats: Vec<Seat<L>>,
     ) -> Result<Report, Unreported>
         requires { L.parts ≡ most_actors }
-        ensures ok { IfOk result (λ report. IsAudited self seats.items report) }
+        ensures ok { IfOk result (IsAudited self seats.items) }
         ensures fault { IfErr result (λ unreported. IsUnreported self seats.items
             unreported.fault unreported.kept) }
     {
         let SharedDesk { locked, .. } = self;
-        locked.into_inner().audit_seats_in_threads(rt, seats)
+        match locked.into_inner().gather(seats) {
+            Ok(kept) => {
+                let differing = first_differing_in_threads(rt, &kept);
+                audit_report(kept, differing)
+            }
+            Err(actor) => Err(Unreported {
+                fault: CloseFault::SeatMissing(actor),
+                kept: None,
+            }),
+        }
     }
 }

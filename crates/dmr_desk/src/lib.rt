@@ -13,9 +13,9 @@
 //!   and returns a [`Term`].
 //!
 //! Three things need no comparison. The journal is exactly as long as all seats' lists: a desk and its seats share the
-//! parts of a ledger, which counts each deposit. The content of the lock belongs to the desk's own site, limit and number
-//! of actors: the ledger names them ([`DeskLedger`]), and the content's type says that they agree. No entry belongs to
-//! another actor: a seat's type says that its actor is one of that desk's.
+//! parts of a ledger, which counts each deposit. The content of the lock belongs to the desk's own site, limit and
+//! number of actors: the ledger names them ([`DeskLedger`]), and the content's type says that they agree. No entry
+//! belongs to another actor: a seat's type says that its actor is one of that desk's.
 //!
 //! Each term goes on from the [`Service`] that the one before it left ([`try_term`]), and an [`Observer`] sees each
 //! report. [`one_life`] says what all terms come to, and [`terms_go_on`] how rows of terms join.

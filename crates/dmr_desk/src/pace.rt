@@ -1,9 +1,8 @@
 //! The ticker: its pacer and its work.
 
-ghost use Rattle.std.specs.Prelude.{◌≡◌, ◌⊎◌, Option, Some};
-ghost use Rattle.dmr_core.specs.declared.event.Event.{Event as AnEvent};
-ghost use Rattle.dmr_link.specs.declared.desk.TermOver.{TermOver as ATermOver};
+ghost use Rattle.std.specs.Prelude.{◌≡◌, Option, Some};
 ghost use Rattle.dmr_desk.specs.Pace.{Paced, FollowsPace, Ticking, TicksOn, Ticks};
+ghost use Rattle.dmr_desk.specs.Work.{SaidOver};
 
 use crate::ending::Ending;
 use dmr_core::Event;
@@ -44,10 +43,7 @@ fn tick_once<T: Pacer, D: Desk>(pacer: &mut T, desk: &mut D) -> Option<Ending>
     ensures ticks { (before : _) (calls : _)
         → Ticking before calls (T.paced pacer.old) (D.calls desk.old)
         → TicksOn before calls (T.paced pacer.new) (D.calls desk.new) result }
-    ensures over { result ≡ Some Ending.TermOver
-        → ((before : _) × (event : AnEvent) × (over : ATermOver)
-        × D.refuses before event over desk.new)
-        ⊎ ((before : _) × D.ends before desk.new) }
+    ensures over { result ≡ Some Ending.TermOver → SaidOver D.Desk desk.new }
 {
     if desk.over() {
         return Some(Ending::TermOver);
@@ -69,10 +65,7 @@ pub fn work_ticker<R: Wait, T: Pacer, D: Desk>(rt: &R, pacer: &mut T, desk: &mut
     ensures actor { D.actor desk.new ≡ D.actor desk.old }
     ensures ticks { Ticks (T.paced pacer.old) (D.calls desk.old) (T.paced pacer.new)
         (D.calls desk.new) result }
-    ensures over { result ≡ Ending.TermOver
-        → ((before : _) × (event : AnEvent) × (over : ATermOver)
-        × D.refuses before event over desk.new)
-        ⊎ ((before : _) × D.ends before desk.new) }
+    ensures over { result ≡ Ending.TermOver → SaidOver D.Desk desk.new }
 {
     for _ in rt.forever() {
         if let Some(ending) = tick_once(pacer, desk) {

@@ -18,8 +18,8 @@ use std::sync::ledger;
 use std::sync::ledger::Share;
 
 /// One actor's place at a desk: the actor's number and the deposits, in order. Contracts see both. By the ledger `L` it
-/// fits only the desk that it was opened with, and its actor is one of that desk's. It has room for as many deposits as that desk's journal may have
-/// entries.
+/// fits only the desk that it was opened with, and its actor is one of that desk's. It has room for as many deposits as
+/// that desk's journal may have entries.
 #[derive(Drop)]
 pub struct Seat<L: DeskLedger> {
     actor: u8,
@@ -41,8 +41,8 @@ impl<L: DeskLedger> Model for Seat<L> {
 }
 
 impl<L: DeskLedger> Seat<L> {
-    /// Makes the seat of an actor of the ledger's desk, with room for `limit` deposits. If a list with the room is kept, its memory is used.
-    /// On an error an allocation was refused.
+    /// Makes the seat of an actor of the ledger's desk, with room for `limit` deposits. If a list with the room is
+    /// kept, its memory is used. On an error an allocation was refused.
     pub(crate) fn new(
         alloc: Global,
         spare: &mut SpareLists,
@@ -79,9 +79,9 @@ impl<L: DeskLedger> Seat<L> {
         }
     }
 
-    /// Applies an event to the book for this actor, counts it in the ledger, and keeps it with the answer. `acts` becomes
-    /// the answer, whatever it was before. On an error the book or the seat has no room, and nothing has changed, `acts`
-    /// neither; the error has the number of the book's entries.
+    /// Applies an event to the book for this actor, counts it in the ledger, and keeps it with the answer. `acts`
+    /// becomes the answer, whatever it was before. On an error the book or the seat has no room, and nothing has
+    /// changed, `acts` neither; the error has the number of the book's entries.
     pub(crate) fn apply_event_to(
         &mut self,
         book: &mut Book,

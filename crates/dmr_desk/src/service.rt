@@ -29,8 +29,8 @@ pub struct Refused<P, G, T, C> {
     /// The service as it was handed in, if no thread was started: at `BadStations` and at `Open`. At `OutOfMemory` some
     /// lists in `spare` may be lost, which contracts do not see. At the other faults this is `None`.
     pub left: Option<Service<P, G, T, C>>,
-    /// The term as its workers left it, if they have ended: at `Early` and at `Audit`. Of an `Early` term all holds that
-    /// holds of a term, except that the worker of this actor ended too early. At `Audit` the report is what the desk
-    /// kept, and the view of this actor differs from the journal. At the other faults this is `None`.
+    /// The term as its workers left it, if they have ended: at `Early` and at `Audit`. Of an `Early` term all holds
+    /// that holds of a term, except that the worker of this actor ended too early. At `Audit` the report is what the
+    /// desk kept, and the view of this actor differs from the journal. At the other faults this is `None`.
     pub ended: Option<Term<Station<P, G>, T, ConsoleStation<C>>>,
 }

@@ -2,11 +2,10 @@
 
 ghost use Rattle.std.specs.Prelude.{◌≡◌, true, false, not, [], ◌∷◌, IfOk, IfErr, List};
 ghost use Rattle.dmr_core.specs.declared.event.Event.{Event as AnEvent};
-ghost use Rattle.dmr_link.specs.declared.desk.TermOver.{TermOver as ATermOver};
 ghost use Rattle.dmr_wire.specs.Answers.{Reports, of_connect, of_wait};
 ghost use Rattle.dmr_link.specs.Sessions.{Session, new_session, HasPast, IsOver, Serves, Cuts};
 ghost use Rattle.dmr_link.specs.LinkSteps.{is_live};
-ghost use Rattle.dmr_desk.specs.Work.{StationState, Answers, ChangesLink, sides_at};
+ghost use Rattle.dmr_desk.specs.Work.{StationState, Answers, ChangesLink, HasRefused, sides_at};
 
 use dmr_link::{ConsoleLink, Desk, Ended, Gate, Link, TermOver};
 use dmr_wire::{Connect, Port, Waited};
@@ -61,9 +60,7 @@ pub trait Serving {
         ensures serves { Serves (state self.old).link (state self.new).link
             (sides_at (state self.old) (D.calls desk.old))
             (sides_at (state self.new) (D.calls desk.new)) result }
-        ensures over { result ≡ Ended.TermOver
-            → (before : _) × (event : AnEvent) × (over : ATermOver)
-            × D.refuses before event over desk.new }
+        ensures over { result ≡ Ended.TermOver → HasRefused D.Desk desk.new }
         ensures shut { result ≡ Ended.GateShut → shut self.new };
 
     /// Waits on the port.

@@ -1,16 +1,11 @@
 //! A term: the workers of a site, each in a thread of its own, at one desk.
 
-ghost use Rattle.std.specs.Prelude.{◌≡◌, ◌+◌, ◌≤◌, ◌<◌, ◌++◌, ◌∷◌, [], ℕ, All, List, Option, Some};
-ghost use Rattle.std.specs.Prelude.{IfOk, IfErr, IfSome, map, slice_get, vec_len, vec_capacity};
-ghost use Rattle.std.specs.Prelude.{length, option_map, true};
+ghost use Rattle.std.specs.Prelude.{◌≡◌, ◌+◌, ◌≤◌, ◌<◌, ◌++◌, ◌∷◌, [], IfOk, IfErr, length, map};
+ghost use Rattle.std.specs.Prelude.{option_map, true, vec_capacity, vec_len};
 ghost use Rattle.arrayvec.specs.ArrayVec.{array_vec_len};
+ghost use Rattle.dmr_desk.specs.Crew.{AllWorked, HasRoom, IsTermAt, end_of, start_of};
 ghost use Rattle.dmr_desk.specs.Limits.{most_actors};
-ghost use Rattle.dmr_desk.specs.Pace.{Paced};
 ghost use Rattle.dmr_desk.specs.Refusing.{IsEndAt, early_actor, first_over, is_late};
-ghost use Rattle.dmr_desk.specs.Seats.{empty_seats};
-ghost use Rattle.dmr_desk.specs.Term.{AllDone, IsWorkDone, IsTerm, IsTicked, work_done};
-ghost use Rattle.dmr_desk.specs.Term.{end_of_term, start_of_term};
-ghost use Rattle.dmr_desk.specs.Work.{StationState};
 
 use crate::actors::LinkWork;
 use crate::desk::SharedDesk;
@@ -22,9 +17,8 @@ use crate::pace::Pacer;
 use crate::report::{Journal, Report, Unreported};
 use crate::seat::Seat;
 use crate::station::Serving;
-use crate::threads::{AllWork, TickerAndConsole, Workers, run_workers};
+use crate::threads::AllWork;
 use arrayvec::ArrayVec;
-use std::sync::Wait;
 use std::thread::Threads;
 
 /// The result of a term. All its workers have ended, and the desk returned its report. A term that failed with `Audit`
@@ -128,12 +122,7 @@ fn split_all_works<S: Drop, T: Drop, C: Drop, L: DeskLedger>(
     all: AllWork<S, T, C, L>,
     back: HandedBack<S, L>,
 ) -> (HandedBack<S, L>, T, C)
-    requires few { vec_len all.carriers ≤ 16 }
-    requires stations { back.stations.items ≡ [] }
-    requires seats { back.seats.items ≡ [] }
-    requires ends { back.ends.items ≡ [] }
-    requires room { vec_len all.carriers ≤ vec_capacity back.stations }
-    requires seats_room { vec_len all.carriers + 2 ≤ vec_capacity back.seats }
+    requires { HasRoom (vec_len all.carriers) back }
     ensures stations { result.0.stations.items ≡ map (λ w. w.station) all.carriers.items }
     ensures seats { result.0.seats.items
         ≡ map (λ w. w.seat) all.carriers.items ++ all.ticker.seat ∷ all.console.seat ∷ [] }
@@ -173,41 +162,14 @@ where
     requires whole { L.parts ≡ most_actors }
     requires limit { desk.limit ≡ limit }
     requires actors { desk.actors ≡ vec_len all.carriers + 2 }
-    requires few { vec_len all.carriers ≤ 16 }
-    requires stations { back.stations.items ≡ [] }
-    requires seats { back.seats.items ≡ [] }
-    requires ends { back.ends.items ≡ [] }
-    requires room { vec_len all.carriers ≤ vec_capacity back.stations }
-    requires seats_room { vec_len all.carriers + 2 ≤ vec_capacity back.seats }
-    ensures term { IfOk result (λ t. (stations : List StationState) (pacer : Option Paced)
-        (console : StationState) → AllDone 0 stations
-        (map (λ w. work_done (S.state w.station) w.seat w.ending) all.carriers.items)
-        → IsTicked (length stations) pacer
-        (T.paced all.ticker.pacer) all.ticker.seat all.ticker.ending
-        → IsWorkDone (length stations + 1) console
-        (work_done (C.state all.console.station) all.console.seat all.console.ending)
-        → IsTerm (start_of_term desk.site desk.limit stations pacer console)
-        (end_of_term t.report t.ends.items (map (λ s. S.state s) t.stations.items) (T.paced t.pacer)
-        (C.state t.console))) }
-    ensures shut { IfOk result
-        (λ t. All (λ w. w.ending ≡ Ending.GateShut → S.shut w.station) all.carriers.items
-        → (k : ℕ) (s : _) → slice_get t.stations.items k ≡ Some s
-        → slice_get t.ends.items k ≡ Some Ending.GateShut → S.shut s) }
-    ensures open { IfOk result
-        (λ t. (all.console.ending ≡ Ending.GateShut → C.shut all.console.station)
-        → slice_get t.ends.items (vec_len all.carriers + 1) ≡ Some Ending.GateShut
-        → C.shut t.console) }
-    ensures ended { IfErr result (λ failed. (stations : List StationState) (pacer : Option Paced)
-        (console : StationState) → AllDone 0 stations
-        (map (λ w. work_done (S.state w.station) w.seat w.ending) all.carriers.items)
-        → IsTicked (length stations) pacer
-        (T.paced all.ticker.pacer) all.ticker.seat all.ticker.ending
-        → IsWorkDone (length stations + 1) console
-        (work_done (C.state all.console.station) all.console.seat all.console.ending)
-        → IsEndAt (start_of_term desk.site desk.limit stations pacer console) failed.fault
-        (option_map (λ t. end_of_term t.report t.ends.items
-        (map (λ s. S.state s) t.stations.items) (T.paced t.pacer) (C.state t.console))
-        failed.ended)) }
+    requires room { HasRoom (vec_len all.carriers) back }
+    ensures term { IfOk result (λ t. (stations : _) (pacer : _) (console : _)
+        → AllWorked S.Serving T.Pacer C.Serving stations pacer console all
+        → IsTermAt S.Serving T.Pacer C.Serving desk stations pacer console t) }
+    ensures ended { IfErr result (λ failed. (stations : _) (pacer : _) (console : _)
+        → AllWorked S.Serving T.Pacer C.Serving stations pacer console all
+        → IsEndAt (start_of S.Serving T.Pacer C.Serving desk stations pacer console) failed.fault
+        (option_map (end_of S.Serving T.Pacer C.Serving) failed.ended)) }
     ensures late { IfErr result (λ failed. is_late failed.fault ≡ true) }
 {
     let (back, pacer, console) = split_all_works(all, back);
@@ -254,54 +216,4 @@ where
             }
         }
     }
-}
-
-/// Runs the workers, each in a thread of its own, from new seats: one for each station, then the ticker's, then the
-/// console's. `room` is for the results of the stations' workers. If a thread could not be started, returns `None`; the
-/// desk was abandoned, all started threads have ended, and what was handed in is lost.
-pub fn run_threads<S, T, C, L, R>(
-    rt: &R,
-    desk: &SharedDesk<L>,
-    stations: Vec<S>,
-    mut seats: Vec<Seat<L>>,
-    pacer: T,
-    console: C,
-    room: Vec<LinkWork<S, L>>,
-) -> Option<AllWork<S, T, C, L>>
-where
-    S: Serving + Send + Drop,
-    T: Pacer + Send + Drop,
-    C: Serving + Send + Drop,
-    L: DeskLedger + Send + Sync,
-    R: Wait + Threads + Sync,
-    requires seats { seats.items ≡ empty_seats (vec_len stations + 2) }
-    requires empty { room.items ≡ [] }
-    requires room { vec_len stations ≤ vec_capacity room }
-    ensures carriers { IfSome result (λ r. AllDone 0 (map (λ s. S.state s) stations.items)
-        (map (λ w. work_done (S.state w.station) w.seat w.ending) r.carriers.items)) }
-    ensures shut { IfSome result
-        (λ r. All (λ w. w.ending ≡ Ending.GateShut → S.shut w.station) r.carriers.items) }
-    ensures len { IfSome result (λ r. vec_len r.carriers ≡ vec_len stations) }
-    ensures ticker { IfSome result (λ r. IsTicked (vec_len stations) (T.paced pacer)
-        (T.paced r.ticker.pacer) r.ticker.seat r.ticker.ending) }
-    ensures console { IfSome result (λ r. IsWorkDone (vec_len stations + 1) (C.state console)
-        (work_done (C.state r.console.station) r.console.seat r.console.ending)) }
-    ensures open { IfSome result (λ r. r.console.ending ≡ Ending.GateShut
-        → C.shut r.console.station) }
-{
-    let console_seat = seats.pop()?;
-    let pacer_seat = seats.pop()?;
-    let others = TickerAndConsole {
-        pacer,
-        pacer_seat,
-        console,
-        console_seat,
-    };
-    let crew = Workers {
-        stations,
-        seats,
-        others,
-        room,
-    };
-    run_workers(rt, desk, crew)
 }

@@ -1,16 +1,15 @@
 //! The threads of a term.
 
-ghost use Rattle.std.specs.Prelude.{◌≡◌, ◌≤◌, ◌+◌, ℕ, [], All, IfSome, true, map, vec_len};
-ghost use Rattle.std.specs.Prelude.{vec_capacity};
-ghost use Rattle.dmr_desk.specs.Term.{AllDone, AreNew, IsWorkDone, IsNew, IsTicked, are_new};
-ghost use Rattle.dmr_desk.specs.Term.{work_done, is_new};
+ghost use Rattle.std.specs.Prelude.{◌≡◌, ◌≤◌, ◌+◌, ℕ, [], All, IfSome, true, vec_capacity, vec_len};
+ghost use Rattle.dmr_desk.specs.Crew.{AllDone, AllWorked, IsTicked, IsWorkDone};
+ghost use Rattle.dmr_desk.specs.Seats.{empty_seats};
+ghost use Rattle.dmr_desk.specs.Term.{AreNew, are_new, is_new};
 
 use crate::actors::{
     LinkPromise, LinkWork, TickerPromise, TickerWork, tick_from_seat, work_from_seat,
 };
 use crate::desk::SharedDesk;
 use crate::desk_ledger::DeskLedger;
-use crate::ending::Ending;
 use crate::pace::Pacer;
 use crate::seat::Seat;
 use crate::station::Serving;
@@ -56,18 +55,14 @@ where
     L: DeskLedger + Send + Sync + 's,
     R: Wait + Threads + Sync,
     requires { seat.deposits ≡ [] }
-    ensures done { IfSome result (λ r. IsWorkDone seat.actor (C.state station)
-        (work_done (C.state r.station) r.seat r.ending)) }
-    ensures shut { IfSome result (λ r. r.ending ≡ Ending.GateShut → C.shut r.station) }
+    ensures { IfSome result (IsWorkDone C.Serving seat.actor station) }
 {
     let promise = LinkPromise(Snapshot::of(&station), seat.actor());
     match scope.spawn_with(
         promise,
         move || -> LinkWork<C, L>
             requires { seat.deposits ≡ [] }
-            ensures { IsWorkDone seat.actor (C.state station)
-                (work_done (C.state result.station) result.seat result.ending)
-                × (result.ending ≡ Ending.GateShut → C.shut result.station) }
+            ensures { IsWorkDone C.Serving seat.actor station result }
         { work_from_seat(rt, desk, station, seat) },
     ) {
         Ok(child) => Some(child.join(rt)),
@@ -96,13 +91,8 @@ where
     requires pacer { others.pacer_seat.deposits ≡ [] }
     requires console { others.console_seat.deposits ≡ [] }
     ensures carriers { IfSome result (λ r. r.carriers ≡ carriers) }
-    ensures ticker { IfSome result (λ r. IsTicked others.pacer_seat.actor (T.paced others.pacer)
-        (T.paced r.ticker.pacer) r.ticker.seat r.ticker.ending) }
-    ensures console { IfSome result
-        (λ r. IsWorkDone others.console_seat.actor (C.state others.console)
-        (work_done (C.state r.console.station) r.console.seat r.console.ending)) }
-    ensures shut { IfSome result (λ r. r.console.ending ≡ Ending.GateShut
-        → C.shut r.console.station) }
+    ensures ticker { IfSome result (λ r. IsTicked T.Pacer others.pacer_seat.actor others.pacer r.ticker) }
+    ensures console { IfSome result (λ r. IsWorkDone C.Serving others.console_seat.actor others.console r.console) }
 {
     let TickerAndConsole {
         pacer,
@@ -115,8 +105,7 @@ where
         promise,
         move || -> TickerWork<T, L>
             requires { pacer_seat.deposits ≡ [] }
-            ensures { IsTicked pacer_seat.actor (T.paced pacer)
-                (T.paced result.pacer) result.seat result.ending }
+            ensures { IsTicked T.Pacer pacer_seat.actor pacer result }
         { tick_from_seat(rt, desk, pacer, pacer_seat) },
     ) {
         Ok(child) => {
@@ -173,19 +162,11 @@ where
     requires room { vec_len stations ≤ vec_capacity room }
     // The seats are numbered from any number on.
     ensures carriers { (first : ℕ) → AreNew first seats.items
-        → IfSome result (λ r. AllDone first (map (λ s. S.state s) stations.items)
-        (map (λ w. work_done (S.state w.station) w.seat w.ending) r.carriers.items)) }
-    ensures shut { IfSome result
-        (λ r. All (λ w. w.ending ≡ Ending.GateShut → S.shut w.station) r.carriers.items) }
+        → IfSome result (λ r. AllDone S.Serving first stations.items r.carriers.items) }
     ensures len { IfSome result (λ r. vec_len r.carriers ≡ vec_len stations) }
     ensures room { IfSome result (λ r. vec_capacity r.carriers ≡ vec_capacity room) }
-    ensures ticker { IfSome result (λ r. IsTicked others.pacer_seat.actor (T.paced others.pacer)
-        (T.paced r.ticker.pacer) r.ticker.seat r.ticker.ending) }
-    ensures console { IfSome result
-        (λ r. IsWorkDone others.console_seat.actor (C.state others.console)
-        (work_done (C.state r.console.station) r.console.seat r.console.ending)) }
-    ensures open { IfSome result (λ r. r.console.ending ≡ Ending.GateShut
-        → C.shut r.console.station) }
+    ensures ticker { IfSome result (λ r. IsTicked T.Pacer others.pacer_seat.actor others.pacer r.ticker) }
+    ensures console { IfSome result (λ r. IsWorkDone C.Serving others.console_seat.actor others.console r.console) }
 {
     if stations.is_empty() {
         return run_ticker_and_console(rt, scope, desk, others, room);
@@ -197,9 +178,7 @@ where
         promise,
         move || -> LinkWork<S, L>
             requires { seat.deposits ≡ [] }
-            ensures { IsWorkDone seat.actor (S.state station)
-                (work_done (S.state result.station) result.seat result.ending)
-                × (result.ending ≡ Ending.GateShut → S.shut result.station) }
+            ensures { IsWorkDone S.Serving seat.actor station result }
         { work_from_seat(rt, desk, station, seat) },
     ) {
         Ok(child) => {
@@ -256,18 +235,8 @@ where
     C: Serving + Send + Drop + 's,
     L: DeskLedger + Send + Sync + 's,
     R: Wait + Threads + Sync,
-    ensures carriers { IfSome result (λ r. AllDone 0 (map (λ s. S.state s) crew.stations.items)
-        (map (λ w. work_done (S.state w.station) w.seat w.ending) r.carriers.items)) }
-    ensures shut { IfSome result
-        (λ r. All (λ w. w.ending ≡ Ending.GateShut → S.shut w.station) r.carriers.items) }
-    ensures len { IfSome result (λ r. vec_len r.carriers ≡ vec_len crew.stations) }
-    ensures ticker { IfSome result (λ r. IsTicked (vec_len crew.stations)
-        (T.paced crew.others.pacer) (T.paced r.ticker.pacer) r.ticker.seat r.ticker.ending) }
-    ensures console { IfSome result
-        (λ r. IsWorkDone (vec_len crew.stations + 1) (C.state crew.others.console)
-        (work_done (C.state r.console.station) r.console.seat r.console.ending)) }
-    ensures open { IfSome result (λ r. r.console.ending ≡ Ending.GateShut
-        → C.shut r.console.station) }
+    ensures { IfSome result
+        (AllWorked S.Serving T.Pacer C.Serving crew.stations.items crew.others.pacer crew.others.console) }
 {
     let Workers {
         stations,
@@ -278,10 +247,8 @@ where
     run_stations(rt, scope, desk, stations, seats, others, room)
 }
 
-/// Runs all workers, each in a thread of its own, and waits for them. If a thread could not be started, returns `None`.
-/// Then the desk was abandoned, each started worker ended when it next asked whether the term is over, and the crew is
-/// lost.
-pub fn run_workers<S, T, C, L, R>(
+/// Runs the workers of the whole crew, each in a thread of its own, as [`run_threads`] does.
+fn run_workers<S, T, C, L, R>(
     rt: &R,
     desk: &SharedDesk<L>,
     crew: Workers<S, T, C, L>,
@@ -292,20 +259,51 @@ where
     C: Serving + Send + Drop,
     L: DeskLedger + Send + Sync,
     R: Wait + Threads + Sync,
-    ensures carriers { IfSome result (λ r. AllDone 0 (map (λ s. S.state s) crew.stations.items)
-        (map (λ w. work_done (S.state w.station) w.seat w.ending) r.carriers.items)) }
-    ensures shut { IfSome result
-        (λ r. All (λ w. w.ending ≡ Ending.GateShut → S.shut w.station) r.carriers.items) }
-    ensures len { IfSome result (λ r. vec_len r.carriers ≡ vec_len crew.stations) }
-    ensures ticker { IfSome result (λ r. IsTicked (vec_len crew.stations)
-        (T.paced crew.others.pacer) (T.paced r.ticker.pacer) r.ticker.seat r.ticker.ending) }
-    ensures console { IfSome result
-        (λ r. IsWorkDone (vec_len crew.stations + 1) (C.state crew.others.console)
-        (work_done (C.state r.console.station) r.console.seat r.console.ending)) }
-    ensures open { IfSome result (λ r. r.console.ending ≡ Ending.GateShut
-        → C.shut r.console.station) }
+    ensures { IfSome result
+        (AllWorked S.Serving T.Pacer C.Serving crew.stations.items crew.others.pacer crew.others.console) }
 {
     thread::scope(thread::scope_env(), rt, move |scope| {
         run_crew(rt, scope, desk, crew)
     })
+}
+
+/// Runs the workers, each in a thread of its own, and waits for them. Each has a new seat: one for each station, then
+/// the ticker's, then the console's. `room` is for the results of the stations' workers. If a thread could not be
+/// started, returns `None`. Then the desk was abandoned, each started worker ended when it next asked whether the term
+/// is over, and what was handed in is lost.
+pub fn run_threads<S, T, C, L, R>(
+    rt: &R,
+    desk: &SharedDesk<L>,
+    stations: Vec<S>,
+    mut seats: Vec<Seat<L>>,
+    pacer: T,
+    console: C,
+    room: Vec<LinkWork<S, L>>,
+) -> Option<AllWork<S, T, C, L>>
+where
+    S: Serving + Send + Drop,
+    T: Pacer + Send + Drop,
+    C: Serving + Send + Drop,
+    L: DeskLedger + Send + Sync,
+    R: Wait + Threads + Sync,
+    requires seats { seats.items ≡ empty_seats (vec_len stations + 2) }
+    requires empty { room.items ≡ [] }
+    requires room { vec_len stations ≤ vec_capacity room }
+    ensures { IfSome result (AllWorked S.Serving T.Pacer C.Serving stations.items pacer console) }
+{
+    let console_seat = seats.pop()?;
+    let pacer_seat = seats.pop()?;
+    let others = TickerAndConsole {
+        pacer,
+        pacer_seat,
+        console,
+        console_seat,
+    };
+    let crew = Workers {
+        stations,
+        seats,
+        others,
+        room,
+    };
+    run_workers(rt, desk, crew)
 }

@@ -1,12 +1,11 @@
 //! The workers of links: one for each carrier, and one for the console. What a poll does not run is marked
 //! `#[inline(never)]`: its code then does not lie between that of a poll.
 
-ghost use Rattle.std.specs.Prelude.{◌≡◌, ◌⊎◌, true, false, None, Some};
-ghost use Rattle.dmr_core.specs.declared.event.Event.{Event as AnEvent};
-ghost use Rattle.dmr_link.specs.declared.desk.TermOver.{TermOver as ATermOver};
+ghost use Rattle.std.specs.Prelude.{◌≡◌, true, false, None, Some};
 ghost use Rattle.dmr_link.specs.LinkSteps.{is_live};
-ghost use Rattle.dmr_desk.specs.Work.{station_state, moment, IsAtWork, IsAboutToWait};
-ghost use Rattle.dmr_desk.specs.Work.{IsNextStep, WorksUntil};
+ghost use Rattle.dmr_desk.specs.Crew.{Goes, moment_of};
+ghost use Rattle.dmr_desk.specs.Work.{IsAboutToWait, IsAtWork, SaidOver, WorksUntil, moment};
+ghost use Rattle.dmr_desk.specs.Work.{station_state};
 
 use crate::ending::Ending;
 use crate::station::{ConsoleStation, Serving, Station};
@@ -19,8 +18,7 @@ use std::sync::Wait;
 fn ask_for_connection<S: Serving, D: Desk>(station: &mut S, desk: &mut D) -> Option<Ending>
     requires { is_live (S.state station.old).link ≡ false }
     ensures actor { D.actor desk.new ≡ D.actor desk.old }
-    ensures goes { (m : _) → IsAtWork m (moment (S.state station.old) (D.calls desk.old) (D.questions desk.old))
-        → IsNextStep m (moment (S.state station.new) (D.calls desk.new) (D.questions desk.new)) result }
+    ensures goes { Goes IsAtWork S.Serving D.Desk station.old desk.old station.new desk.new result }
     ensures shut { result ≡ Some Ending.GateShut → ⊥ }
     ensures over { result ≡ Some Ending.TermOver → (before : _) × D.ends before desk.new }
 {
@@ -42,13 +40,9 @@ fn ask_for_connection<S: Serving, D: Desk>(station: &mut S, desk: &mut D) -> Opt
 fn wait_for_port<S: Serving, D: Desk>(station: &mut S, desk: &mut D) -> Option<Ending>
     requires { is_live (S.state station.old).link ≡ true }
     ensures actor { D.actor desk.new ≡ D.actor desk.old }
-    ensures goes { (m : _) → IsAboutToWait m (moment (S.state station.old) (D.calls desk.old) (D.questions desk.old))
-        → IsNextStep m (moment (S.state station.new) (D.calls desk.new) (D.questions desk.new)) result }
+    ensures goes { Goes IsAboutToWait S.Serving D.Desk station.old desk.old station.new desk.new result }
     ensures shut { result ≡ Some Ending.GateShut → ⊥ }
-    ensures over { result ≡ Some Ending.TermOver
-        → ((before : _) × (event : AnEvent) × (over : ATermOver)
-        × D.refuses before event over desk.new)
-        ⊎ ((before : _) × D.ends before desk.new) }
+    ensures over { result ≡ Some Ending.TermOver → SaidOver D.Desk desk.new }
 {
     if desk.over() {
         return Some(Ending::TermOver);
@@ -70,13 +64,9 @@ fn wait_for_port<S: Serving, D: Desk>(station: &mut S, desk: &mut D) -> Option<E
 fn serve_once<S: Serving, D: Desk>(station: &mut S, desk: &mut D) -> Option<Ending>
     requires { is_live (S.state station.old).link ≡ true }
     ensures actor { D.actor desk.new ≡ D.actor desk.old }
-    ensures goes { (m : _) → IsAtWork m (moment (S.state station.old) (D.calls desk.old) (D.questions desk.old))
-        → IsNextStep m (moment (S.state station.new) (D.calls desk.new) (D.questions desk.new)) result }
+    ensures goes { Goes IsAtWork S.Serving D.Desk station.old desk.old station.new desk.new result }
     ensures shut { result ≡ Some Ending.GateShut → S.shut station.new }
-    ensures over { result ≡ Some Ending.TermOver
-        → ((before : _) × (event : AnEvent) × (over : ATermOver)
-        × D.refuses before event over desk.new)
-        ⊎ ((before : _) × D.ends before desk.new) }
+    ensures over { result ≡ Some Ending.TermOver → SaidOver D.Desk desk.new }
 {
     if desk.over() {
         return Some(Ending::TermOver);
@@ -94,37 +84,22 @@ fn serve_once<S: Serving, D: Desk>(station: &mut S, desk: &mut D) -> Option<Endi
     }
 }
 
-/// Serves the link if it is live, and otherwise asks for a connection. Returns `Some` if the work has ended.
-fn do_step<S: Serving, D: Desk>(station: &mut S, desk: &mut D) -> Option<Ending>
-    ensures actor { D.actor desk.new ≡ D.actor desk.old }
-    ensures goes { (m : _) → IsAtWork m (moment (S.state station.old) (D.calls desk.old) (D.questions desk.old))
-        → IsNextStep m (moment (S.state station.new) (D.calls desk.new) (D.questions desk.new)) result }
-    ensures shut { result ≡ Some Ending.GateShut → S.shut station.new }
-    ensures over { result ≡ Some Ending.TermOver
-        → ((before : _) × (event : AnEvent) × (over : ATermOver)
-        × D.refuses before event over desk.new)
-        ⊎ ((before : _) × D.ends before desk.new) }
-{
-    if station.live() {
-        serve_once(station, desk)
-    } else {
-        ask_for_connection(station, desk)
-    }
-}
-
-/// Serves a station's connections, one after another, until the work has ended.
+/// Serves a station's connections, one after another, until the work has ended. Each step serves the link if it is
+/// live, and otherwise asks for a connection.
 pub fn work_station<R: Wait, S: Serving, D: Desk>(rt: &R, station: &mut S, desk: &mut D) -> Ending
     ensures actor { D.actor desk.new ≡ D.actor desk.old }
-    ensures works { WorksUntil (moment (S.state station.old) (D.calls desk.old) (D.questions desk.old))
-        (moment (S.state station.new) (D.calls desk.new) (D.questions desk.new)) result }
+    ensures works { WorksUntil (moment_of S.Serving D.Desk station.old desk.old)
+        (moment_of S.Serving D.Desk station.new desk.new) result }
     ensures shut { result ≡ Ending.GateShut → S.shut station.new }
-    ensures over { result ≡ Ending.TermOver
-        → ((before : _) × (event : AnEvent) × (over : ATermOver)
-        × D.refuses before event over desk.new)
-        ⊎ ((before : _) × D.ends before desk.new) }
+    ensures over { result ≡ Ending.TermOver → SaidOver D.Desk desk.new }
 {
     for _ in rt.forever() {
-        if let Some(ending) = do_step(station, desk) {
+        let ended = if station.live() {
+            serve_once(station, desk)
+        } else {
+            ask_for_connection(station, desk)
+        };
+        if let Some(ending) = ended {
             return ending;
         }
     }
@@ -147,10 +122,7 @@ pub fn work_carrier<R: Wait, P: Port, G: Gate, D: Desk>(
         (P.reported station.new.port) (G.passed station.new.gate)) (D.calls desk.new)
         (D.questions desk.new)) result }
     ensures shut { result ≡ Ending.GateShut → (before : _) × G.shuts before station.new.gate }
-    ensures over { result ≡ Ending.TermOver
-        → ((before : _) × (event : AnEvent) × (over : ATermOver)
-        × D.refuses before event over desk.new)
-        ⊎ ((before : _) × D.ends before desk.new) }
+    ensures over { result ≡ Ending.TermOver → SaidOver D.Desk desk.new }
 {
     work_station(rt, station, desk)
 }
@@ -169,10 +141,7 @@ pub fn work_console<R: Wait, P: Port, D: Desk>(
         (moment (station_state station.new.link (P.reported station.new.port) None)
         (D.calls desk.new) (D.questions desk.new)) result }
     ensures open { result ≡ Ending.GateShut → ⊥ }
-    ensures over { result ≡ Ending.TermOver
-        → ((before : _) × (event : AnEvent) × (over : ATermOver)
-        × D.refuses before event over desk.new)
-        ⊎ ((before : _) × D.ends before desk.new) }
+    ensures over { result ≡ Ending.TermOver → SaidOver D.Desk desk.new }
 {
     work_station(rt, station, desk)
 }

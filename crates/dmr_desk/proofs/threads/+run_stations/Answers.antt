@@ -1,7 +1,6 @@
 use Rattle.std.proofs.Common.{◌≡◌, ◌+◌, [], arith}
-use Rattle.dmr_desk.specs.declared.ending.Ending.TheVariants.{GateShut}
 use Rattle.dmr_desk.specs.Seats.{SeatState}
-use Rattle.dmr_desk.proofs.CrewLemmas.{all_cons, all_done_cons, all_tail, first_of}
+use Rattle.dmr_desk.proofs.CrewLemmas.{all_done_cons, all_tail, first_of}
 use Rattle.dmr_desk.proofs.threads.+run_stations.Goals as goal
 
 pub spawn_with-requires-clause-runs : goal.spawn_with-requires-clause-runs
@@ -19,11 +18,4 @@ returns-in-Ok-insert-clause-carriers g t c = λ first new.
     let seats = first_of _ _ _ (omega arith) c.remove-seat.ensures.value c.remove-seat.ensures.items in
     let items = rw c.in-Ok-insert.is at c.insert.ensures.items in
     rw items
-    (all_done_cons (λ s. g.S.Serving.state s) _ _ _ _ _ _ first _ _ stations seats new (rw c.actor.ensures at kept.0) (λ rest. rw c.in-Some.is at c.run_stations-rest.ensures.carriers (first + 1) rest))
-
-pub returns-in-Ok-insert-clause-shut : goal.returns-in-Ok-insert-clause-shut
-returns-in-Ok-insert-clause-shut g t c =
-    let o = rw c.in-Ok.is at c.spawn_with.ensures.ok in
-    let k = rw o at c.join-work.ensures in
-    let items = rw c.in-Ok-insert.is at c.insert.ensures.items in
-    rw items (all_cons (λ w. w.ending ≡ GateShut → g.S.Serving.shut w.station) _ _ k.1 (rw c.in-Some.is at c.run_stations-rest.ensures.shut))
+    (all_done_cons g.S.Serving _ _ _ _ _ _ first _ _ stations seats new (rw c.actor.ensures at kept) (λ rest. rw c.in-Some.is at c.run_stations-rest.ensures.carriers (first + 1) rest))

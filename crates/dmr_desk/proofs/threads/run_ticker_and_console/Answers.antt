@@ -6,4 +6,4 @@ returns-in-Some-clause-ticker g c =
     let promised = rw c.in-Ok.is at c.spawn_with.ensures.ok in
     let joined = rw promised at c.join-ticker.ensures in
     let kept = rw c.of.ensures at joined in
-    (kept.0 ∙ c.actor.ensures, kept.1)
+    record { own = kept.own ∙ c.actor.ensures; ticked = kept.ticked }

@@ -1,6 +1,6 @@
 use Rattle.std.proofs.Common.{rules, ◌∙◌}
 use Rattle.dmr_desk.proofs.CrewLemmas.{new_then, all_new_then, crew_of}
-use Rattle.dmr_desk.proofs.term.run_threads.Goals as goal
+use Rattle.dmr_desk.proofs.threads.run_threads.Goals as goal
 
 pub invariant_of-crew : goal.invariant_of-crew
 invariant_of-crew g c =

@@ -1,6 +1,7 @@
 //! Desks that refuse, and the state afterwards.
 
-ghost use Rattle.std.specs.Prelude.{◌≡◌};
+ghost use Rattle.dmr_desk.specs.Opening.{IsBlankFor};
+ghost use Rattle.dmr_desk.specs.Seats.{opened};
 
 use crate::kept::both;
 use crate::site::quiet_site;
@@ -27,10 +28,7 @@ fn refusal_at<L: DeskLedger>(
     limit: usize,
     actors: u8,
 ) -> Option<(OpenFault, Site)>
-    requires name { blank.name ≡ L.name }
-    requires parts { blank.parts ≡ L.parts }
-    requires eighteen { blank.parts ≡ 18 }
-    requires desk { L.desk ≡ record { site = site; limit = limit; actors = actors } }
+    requires { IsBlankFor L.name L.parts L.desk (opened site limit actors) blank }
 {
     SharedDesk::<L>::open(alloc, blank, site, limit, actors).err()
 }
@@ -103,10 +101,7 @@ fn third_of_two<L: DeskLedger, R: Wait>(
     blank: Blank,
     site: Site,
 ) -> Option<(bool, Report)>
-    requires name { blank.name ≡ L.name }
-    requires parts { blank.parts ≡ L.parts }
-    requires eighteen { blank.parts ≡ 18 }
-    requires desk { L.desk ≡ record { site = site; limit = 2; actors = 1 } }
+    requires { IsBlankFor L.name L.parts L.desk (opened site 2 1) blank }
 {
     let (desk, mut seats) = SharedDesk::<L>::open(alloc, blank, site, 2, 1).ok()?;
     let mut refused = false;
@@ -151,10 +146,7 @@ fn asked_at_two<L: DeskLedger, R: Wait>(
     blank: Blank,
     site: Site,
 ) -> Option<(Option<Reply>, Report)>
-    requires name { blank.name ≡ L.name }
-    requires parts { blank.parts ≡ L.parts }
-    requires eighteen { blank.parts ≡ 18 }
-    requires desk { L.desk ≡ record { site = site; limit = 2; actors = 2 } }
+    requires { IsBlankFor L.name L.parts L.desk (opened site 2 2) blank }
 {
     let (desk, mut seats) = SharedDesk::<L>::open(alloc, blank, site, 2, 2).ok()?;
     let events = [Event::Up(CarrierNo::new(0)), Event::Say(Command::Status)];

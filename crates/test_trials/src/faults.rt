@@ -1,9 +1,7 @@
 //! Terms whose ports fail at any call: the rows of `cases/links/failing_ports.txt`, as `cases/README.md` reads them. Each
 //! compares the events of the peer's actor, the octets that its port took, and how its last connection ended. It also
-//! checks that the link has nothing pending. After the term, each further serve of the link ends as its last connection
-//! did, and touches neither port nor desk.
+//! checks that the link has nothing pending.
 
-mod closed;
 mod peers;
 mod rows;
 mod stage;
@@ -181,11 +179,8 @@ fn try_term<R: Abort + AllocGlobal + Wait + Threads + Sync>(
     want: &ExpectedTerm<'_>,
     round: usize,
 ) -> Result<Option<usize>, Fail> {
-    let mut outcome = FaultStage::new(rt.alloc(), want.peer, steps)?.run(rt, rt.alloc())?;
+    let outcome = FaultStage::new(rt.alloc(), want.peer, steps)?.run(rt, rt.alloc())?;
     let compared = compare(rt, name, &outcome, want, round);
-    for _ in 0..2 {
-        serves_no_more(rt, name, &mut outcome, want.ended, round);
-    }
     let calls = outcome.calls();
     drop(outcome);
     compared?;
@@ -209,7 +204,7 @@ fn ended_of(name: &str) -> Option<Ended> {
 fn compare(
     rt: &(impl Abort + AllocGlobal),
     name: &str,
-    outcome: &FaultOutcome,
+    outcome: &FaultOutcome<'_>,
     want: &ExpectedTerm<'_>,
     round: usize,
 ) -> Result<(), Fail> {
@@ -221,21 +216,6 @@ fn compare(
     let octets = want.peer.answered(rt.alloc(), want.octets, round)?;
     let octets = octets.ok_or("how many octets")?;
     assert_eq!(rt; outcome.taken(), octets.as_slice(), "{name}, {round}");
-    assert!(rt; !outcome.is_live(), "{name}, {round}");
+    assert_eq!(rt; outcome.ended(), Some(want.ended), "{name}, {round}");
     Ok(())
-}
-
-/// Serves the link, which has no connection, again. Checks that this ends as before and touches neither port nor desk.
-fn serves_no_more(
-    rt: &impl Abort,
-    name: &str,
-    outcome: &mut FaultOutcome,
-    wanted: Ended,
-    round: usize,
-) {
-    let calls = outcome.calls();
-    assert!(rt; calls.is_some(), "{name}, {round}");
-    let again = outcome.serve_again();
-    assert_eq!(rt; again, Some((wanted, 0)), "{name}, {round}");
-    assert_eq!(rt; outcome.calls(), calls, "{name}, {round}");
 }

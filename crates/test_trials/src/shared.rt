@@ -1,6 +1,7 @@
 //! Desks that are opened, shared by two threads and closed.
 
-ghost use Rattle.std.specs.Prelude.{◌≡◌};
+ghost use Rattle.dmr_desk.specs.Opening.{IsBlankFor};
+ghost use Rattle.dmr_desk.specs.Seats.{opened};
 
 use crate::site::quiet_site;
 use dmr_core::{Command, Event, Reply, Site};
@@ -37,10 +38,7 @@ fn open_and_close<L: DeskLedger, R: Wait>(
     actors: u8,
     kept: usize,
 ) -> DeskOutcome
-    requires name { blank.name ≡ L.name }
-    requires parts { blank.parts ≡ L.parts }
-    requires eighteen { blank.parts ≡ 18 }
-    requires desk { L.desk ≡ record { site = site; limit = limit; actors = actors } }
+    requires { IsBlankFor L.name L.parts L.desk (opened site limit actors) blank }
 {
     let (desk, mut seats) = match SharedDesk::<L>::open(alloc, blank, site, limit, actors) {
         Ok(opened) => opened,
@@ -146,10 +144,7 @@ fn at_once<L: DeskLedger + Send + Sync, R: Wait + Threads + Sync>(
     site: Site,
     limit: usize,
 ) -> Result<Report, CloseFault>
-    requires name { blank.name ≡ L.name }
-    requires parts { blank.parts ≡ L.parts }
-    requires eighteen { blank.parts ≡ 18 }
-    requires desk { L.desk ≡ record { site = site; limit = limit; actors = 2 } }
+    requires { IsBlankFor L.name L.parts L.desk (opened site limit 2) blank }
 {
     let Some((desk, mut seats)) = SharedDesk::<L>::open(alloc, blank, site, limit, 2).ok() else {
         return Err(CloseFault::Differs(0));

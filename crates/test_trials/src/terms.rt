@@ -3,10 +3,10 @@
 //! Each term ends by itself under every schedule, since a hold ends after some seconds. The expected octets follow from
 //! the frames of the link profile and the texts of the console. An independent coder computed the one burst.
 
-mod meeting;
+pub mod meeting;
 pub mod spelling;
-mod stage;
-mod stories;
+pub mod stage;
+pub mod stories;
 
 use self::spelling::{Letters, octets_of, text_of_letters, write_letters};
 use self::stage::{TermOutcome, TermStage, new_steps, next_stage, octets_taken};

@@ -1,22 +1,23 @@
 //! The workers of a carrier, the ticker and the console, called one after the other in one thread. Each has a seat at
 //! the same desk.
 
-ghost use Rattle.std.specs.Prelude.{◌≡◌, None};
+ghost use Rattle.dmr_desk.specs.Opening.{IsBlankFor};
+ghost use Rattle.dmr_desk.specs.Seats.{opened};
 
-use crate::kept::{both, keep, port_of, push, push_feed, three};
+use crate::kept::{both, three};
 use crate::site::quiet_site;
+use crate::terms::meeting::{Hold, Meeting, MeetingPacer};
 use crate::terms::spelling::Letters;
+use crate::terms::stage::{Carrier, CarrierStation, console_of, station_of};
+use crate::terms::stories::NO_CARRIER;
 use crate::terms::{compare_events, compare_octets};
 use dmr_core::Site;
 use dmr_desk::{
-    ConsoleStation, DeskLedger, Ending, PARTS, Pace, Pacer, Report, Seat, SeatAt, SharedDesk,
-    Station, work_carrier, work_console, work_ticker,
+    ConsoleStation, DeskLedger, Ending, PARTS, Pace, Report, Seat, SeatAt, SharedDesk,
+    work_carrier, work_console, work_ticker,
 };
-use dmr_frames::Version;
-use dmr_link::{ConsoleLink, Link, OpenGate};
-use dmr_pdu::{CarrierNo, Lpcn, OutOfMemory};
-use dmr_wire::{Connect, Got, MemoryPort, Step};
-use std::alloc::{AllocError, Global};
+use dmr_wire::{Got, MemoryPort};
+use std::alloc::Global;
 use std::marker::Brand;
 use std::process::Abort;
 use std::sync::Wait;
@@ -30,67 +31,34 @@ const WANTED: [(Letters, Letters); 3] = [
     (&[(1, "S")], &[(1, "S")]),
 ];
 
-/// A pacer with this number of ticks, and then no more. It states no record.
-#[derive(Drop)]
-struct Ticks {
-    left: u8,
-}
+/// The carrier: it sends HELLO and two POLLs.
+const CARRIER: Carrier = Carrier {
+    connections: &[(2, Got::End)],
+    ..NO_CARRIER
+};
 
-impl Pacer for Ticks {
-    ghost paced = { λ p. None };
-
-    fn next(&mut self) -> Pace {
-        match self.left.checked_sub(1) {
-            Some(left) => {
-                self.left = left;
-                Pace::Tick
-            }
-            None => Pace::Finished,
-        }
-    }
-}
+/// The answers of the pacer: three ticks.
+const PACES: &[Pace] = &[Pace::Tick, Pace::Tick, Pace::Tick];
 
 /// The station, pacer and console that the three workers serve.
 #[derive(Drop)]
-struct Served {
-    station: Station<MemoryPort, OpenGate>,
-    pacer: Ticks,
+struct Served<'a> {
+    station: CarrierStation<'a>,
+    pacer: MeetingPacer<'a>,
     console: ConsoleStation<MemoryPort>,
 }
 
-/// Adds the steps of a connection with these octets, a piece with each read, and then its end.
-fn add_pieces(alloc: Global, steps: &mut Vec<Step>, pieces: &[&[u8]]) -> Result<(), AllocError> {
-    push(steps, Step::Connect(Connect::Ready))?;
-    for piece in pieces {
-        push_feed(alloc, steps, *piece)?;
-    }
-    push(steps, Step::Read(Got::End))
-}
-
-/// Returns the port of that connection.
-fn port_with(alloc: Global, pieces: &[&[u8]]) -> Result<MemoryPort, OutOfMemory> {
-    let mut steps = Vec::new(alloc);
-    let added = add_pieces(alloc, &mut steps, pieces);
-    port_of(alloc, keep(added, steps)?)
-}
-
-/// Returns a carrier that sends HELLO and two POLLs, three ticks, and an operator who asks for the status.
-fn new_served(alloc: Global) -> Result<Served, Fail> {
-    let hello: &[u8] = &[0x01, 0x04, 0x01, 0x00, 0x00, 0x01];
-    let poll: &[u8] = &[0x03, 0x00];
-    let of_carrier = port_with(alloc, &[hello, poll, poll])?;
-    let (of_carrier, of_console) = both(of_carrier, port_with(alloc, &[b"status\n"]))?;
+/// Returns the carrier's station, three ticks, and an operator who asks for the status.
+fn new_served<'a>(alloc: Global) -> Result<Served<'a>, Fail> {
+    let station = station_of(alloc, None, 0, &CARRIER)?;
+    let (station, console) = both(station, console_of(alloc, b"status\n"))?;
     Ok(Served {
-        station: Station {
-            link: Link::new(CarrierNo::new(0), Lpcn::new(1), Version::V1),
-            port: of_carrier,
-            gate: OpenGate,
+        station,
+        pacer: MeetingPacer {
+            paces: PACES,
+            meeting: Meeting::new(None, 1, Hold::Free),
         },
-        pacer: Ticks { left: 3 },
-        console: ConsoleStation {
-            link: ConsoleLink::new(),
-            port: of_console,
-        },
+        console,
     })
 }
 
@@ -102,7 +70,7 @@ fn serve_all<L: DeskLedger, R: Wait>(
     rt: &R,
     desk: &SharedDesk<L>,
     seats: (Seat<L>, Seat<L>, Seat<L>),
-    served: &mut Served,
+    served: &mut Served<'_>,
 ) -> (Ends, [Seat<L>; 3]) {
     let (first, second, third) = seats;
     let mut carrier_at = SeatAt::new(rt, desk, first);
@@ -127,12 +95,9 @@ fn work_over<L: DeskLedger, R: Wait>(
     alloc: Global,
     blank: Blank,
     site: Site,
-    served: &mut Served,
+    served: &mut Served<'_>,
 ) -> Option<(Ends, Report)>
-    requires name { blank.name ≡ L.name }
-    requires parts { blank.parts ≡ L.parts }
-    requires eighteen { blank.parts ≡ 18 }
-    requires desk { L.desk ≡ record { site = site; limit = 100; actors = 3 } }
+    requires { IsBlankFor L.name L.parts L.desk (opened site 100 3) blank }
 {
     let (desk, seats) = SharedDesk::<L>::open(alloc, blank, site, 100, 3).ok()?;
     let (desk, seats) = Some(desk).zip(three(seats))?;
@@ -146,7 +111,7 @@ fn work_all<R: Wait>(
     rt: &R,
     alloc: Global,
     site: Site,
-    served: &mut Served,
+    served: &mut Served<'_>,
 ) -> Option<(Ends, Report)> {
     work_over::<Brand, R>(rt, alloc, Blank::new(PARTS), site, served)
 }
@@ -167,10 +132,14 @@ fn workers(rt: HostRuntime) -> Result<(), Fail> {
 }
 
 /// Compares the events that were deposited and the octets that were written with the expected ones.
-fn compare(rt: &(impl Abort + AllocGlobal), served: &Served, report: &Report) -> Result<(), Fail> {
+fn compare(
+    rt: &(impl Abort + AllocGlobal),
+    served: &Served<'_>,
+    report: &Report,
+) -> Result<(), Fail> {
     assert_eq!(rt; report.journal.as_slice().len(), 8);
     let taken = [
-        served.station.port.taken(),
+        served.station.port.port.taken(),
         &[],
         served.console.port.taken(),
     ];

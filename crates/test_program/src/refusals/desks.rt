@@ -1,6 +1,7 @@
 //! Calls of the book and the shared desk. Both return their site if memory is refused.
 
-ghost use Rattle.std.specs.Prelude.{◌≡◌};
+ghost use Rattle.dmr_desk.specs.Opening.{IsBlankFor};
+ghost use Rattle.dmr_desk.specs.Seats.{opened};
 
 use crate::refusals::calls::{busy_site, go_on_alike};
 use crate::refusals::verdict::{Verdict, verdict_if};
@@ -52,10 +53,7 @@ fn refusal_of_desk<L: DeskLedger>(
     blank: Blank,
     site: Site,
 ) -> Option<(OpenFault, Site)>
-    requires name { blank.name ≡ L.name }
-    requires parts { blank.parts ≡ L.parts }
-    requires eighteen { blank.parts ≡ 18 }
-    requires desk { L.desk ≡ record { site = site; limit = 100; actors = 4 } }
+    requires { IsBlankFor L.name L.parts L.desk (opened site 100 4) blank }
 {
     SharedDesk::<L>::open(alloc, blank, site, 100, 4).err()
 }

@@ -1,16 +1,12 @@
 //! A term with only one peer, and the state after it has ended.
 
-ghost use Rattle.std.specs.Prelude.{None};
-
-use super::closed::ClosedDesk;
 use super::peers::SitePeer;
-use crate::kept::{both, port_of, two};
-use crate::site::quiet_site;
-use dmr_core::{Command, Event, Site};
-use dmr_desk::{ConsoleStation, Ending, Pace, Pacer, Station, Term, TermFault, run_term};
+use crate::kept::{both, port_of};
+use crate::terms::stage::{TermOutcome, TermStage};
+use dmr_core::{Command, Event};
+use dmr_desk::{Ending, TermFault};
 use dmr_frames::Version;
-use dmr_link::{ConsoleLink, Ended, Link, OpenGate};
-use dmr_pdu::{CarrierNo, Lpcn};
+use dmr_link::Ended;
 use dmr_wire::{MemoryPort, Step};
 use std::alloc::{AllocError, Global};
 use std::sync::Wait;
@@ -23,88 +19,33 @@ const AMPLE: usize = 1000;
 /// The console's number among the actors.
 const CONSOLE: usize = 3;
 
-/// A pacer without ticks. It states no record.
-#[derive(Clone, Copy)]
-struct NoTicks;
-
-impl Pacer for NoTicks {
-    ghost paced = { λ p. None };
-
-    fn next(&mut self) -> Pace {
-        Pace::Finished
-    }
-}
-
-/// A carrier's station.
-type CarrierStation = Station<MemoryPort, OpenGate>;
-
-/// The site, the stations and the console before a term, and the peer's actor.
+/// A quiet site with one peer before a term, and the peer's actor.
 #[derive(Drop)]
-pub struct FaultStage {
-    site: Site,
-    stations: Vec<CarrierStation>,
-    console: ConsoleStation<MemoryPort>,
+pub struct FaultStage<'a> {
+    stage: TermStage<'a>,
     actor: usize,
 }
 
 /// The result of a term that has ended, and the peer's actor.
 #[derive(Drop)]
-pub struct FaultOutcome {
-    term: Term<CarrierStation, NoTicks, ConsoleStation<MemoryPort>>,
+pub struct FaultOutcome<'a> {
+    term: TermOutcome<'a>,
     actor: usize,
 }
 
-/// Returns the stations of two carriers: one that serves versions of the link up to `greatest` and has this port, and
-/// one to which nobody connects.
-fn stations_of(
-    alloc: Global,
-    port: MemoryPort,
-    greatest: Version,
-) -> Result<Vec<CarrierStation>, Fail> {
-    let (port, idle) = both(port, port_of(alloc, Vec::new(alloc)))?;
-    let first = Station {
-        link: Link::new(CarrierNo::new(0), Lpcn::new(1), greatest),
-        port,
-        gate: OpenGate,
-    };
-    let second = Station {
-        link: Link::new(CarrierNo::new(1), Lpcn::new(2), Version::V1),
-        port: idle,
-        gate: OpenGate,
-    };
-    Ok(two(alloc, first, second)?)
-}
-
-/// Returns a quiet site with these ports of its first carrier and its console.
-fn stage_of(
-    alloc: Global,
-    ports: (MemoryPort, MemoryPort),
-    greatest: Version,
-    actor: usize,
-) -> Result<FaultStage, Fail> {
-    let (of_carrier, of_console) = ports;
-    let (of_console, stations) = both(of_console, stations_of(alloc, of_carrier, greatest))?;
-    let ((port, stations), site) = both((of_console, stations), quiet_site(alloc))?;
-    Ok(FaultStage {
-        site,
-        stations,
-        console: ConsoleStation {
-            link: ConsoleLink::new(),
-            port,
-        },
-        actor,
-    })
-}
-
-impl FaultStage {
+impl<'a> FaultStage<'a> {
     /// Returns a quiet site with one peer, whose port answers by these steps.
-    pub fn new(alloc: Global, peer: SitePeer, steps: Vec<Step>) -> Result<FaultStage, Fail> {
+    pub fn new(alloc: Global, peer: SitePeer, steps: Vec<Step>) -> Result<Self, Fail> {
         let port = port_of(alloc, steps)?;
         let (port, idle) = both(port, port_of(alloc, Vec::new(alloc)))?;
-        match peer {
-            SitePeer::Carrier(version) => stage_of(alloc, (port, idle), version, 0),
-            SitePeer::Operator => stage_of(alloc, (idle, port), Version::V1, CONSOLE),
-        }
+        let (ports, greatest, actor) = match peer {
+            SitePeer::Carrier(version) => ((port, idle), version, 0),
+            SitePeer::Operator => ((idle, port), Version::V1, CONSOLE),
+        };
+        Ok(FaultStage {
+            stage: TermStage::of_ports(alloc, ports, greatest)?,
+            actor,
+        })
     }
 
     /// Runs the term.
@@ -112,22 +53,14 @@ impl FaultStage {
         self,
         rt: &R,
         alloc: Global,
-    ) -> Result<FaultOutcome, TermFault> {
-        let actor = self.actor;
-        let term = run_term(
-            rt,
-            alloc,
-            self.site,
-            AMPLE,
-            self.stations,
-            NoTicks,
-            self.console,
-        )?;
+    ) -> Result<FaultOutcome<'a>, TermFault> {
+        let FaultStage { stage, actor } = self;
+        let term = stage.run(rt, alloc, AMPLE)?;
         Ok(FaultOutcome { term, actor })
     }
 }
 
-impl FaultOutcome {
+impl<'a> FaultOutcome<'a> {
     /// Returns the number of entries in the journal.
     pub fn entries(&self) -> usize {
         self.term.report.journal.as_slice().len()
@@ -157,7 +90,7 @@ impl FaultOutcome {
         if self.actor == CONSOLE {
             Some(&self.term.console.port)
         } else {
-            Some(&self.term.stations.first()?.port)
+            Some(&self.term.stations.first()?.port.port)
         }
     }
 
@@ -174,28 +107,20 @@ impl FaultOutcome {
         Some(self.port()?.entries()?.len())
     }
 
-    /// Returns whether the peer's link is live.
-    pub fn is_live(&self) -> bool {
-        if self.actor == CONSOLE {
-            return self.term.console.link.live();
-        }
-        match self.term.stations.first() {
-            Some(station) => station.link.live(),
-            None => false,
-        }
-    }
-
-    /// Serves the peer's link again without opening it. Returns how that ended, and the number of calls of the desk.
-    pub fn serve_again(&mut self) -> Option<(Ended, usize)> {
-        let mut desk = ClosedDesk { turns: 0 };
-        let ended = if self.actor == CONSOLE {
-            let ConsoleStation { link, port } = &mut self.term.console;
-            link.serve(port, &mut desk)
+    /// Returns how the last connection of the peer's link ended. `None` if the link is live.
+    pub fn ended(&self) -> Option<Ended> {
+        let (is_live, closing) = if self.actor == CONSOLE {
+            let link = &self.term.console.link;
+            (link.live(), link.closing())
         } else {
-            let Station { link, port, gate } = self.term.stations.first_mut()?;
-            link.serve(port, &mut desk, gate)
+            let link = &self.term.stations.first()?.link;
+            (link.live(), link.closing())
         };
-        Some((ended, desk.turns))
+        if is_live {
+            None
+        } else {
+            Some(Ended::from(closing))
+        }
     }
 }
 

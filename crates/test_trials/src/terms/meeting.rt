@@ -26,22 +26,23 @@ pub enum Hold {
     },
 }
 
+/// The clock, and the counts of the steps of all actors, by number. `None` if no step is held or counted.
+pub type Counts<'a> = Option<(&'a HostRuntime, &'a [AtomicU64])>;
+
 /// Counts the steps of an actor, and holds the first one that can be held. An actor makes a step at each attempt to
 /// enter its gate, at each exit from it, at each silence of its port, and at each question to its pacer.
 #[derive(Drop)]
 pub struct Meeting<'a> {
-    rt: &'a HostRuntime,
-    steps: &'a [AtomicU64],
+    counts: Counts<'a>,
     actor: usize,
     hold: Hold,
 }
 
 impl<'a> Meeting<'a> {
     /// Counts the steps of this actor among those of all actors.
-    pub fn new(rt: &'a HostRuntime, steps: &'a [AtomicU64], actor: usize, hold: Hold) -> Self {
+    pub fn new(counts: Counts<'a>, actor: usize, hold: Hold) -> Self {
         Meeting {
-            rt,
-            steps,
+            counts,
             actor,
             hold,
         }
@@ -49,7 +50,10 @@ impl<'a> Meeting<'a> {
 
     /// Counts a step that cannot be held.
     fn step(&self) {
-        if let Some(made) = self.steps.get(self.actor) {
+        let Some((_, steps)) = self.counts else {
+            return;
+        };
+        if let Some(made) = steps.get(self.actor) {
             made.fetch_add(1, Ordering::SeqCst);
         }
     }
@@ -69,14 +73,17 @@ impl<'a> Meeting<'a> {
 
     /// Waits until an actor has made `steps` steps, for at most 10,000 times 1 ms. Returns whether it has.
     fn waits_for(&self, actor: usize, steps: u64) -> bool {
-        let Some(made) = self.steps.get(actor) else {
+        let Some((rt, counts)) = self.counts else {
+            return false;
+        };
+        let Some(made) = counts.get(actor) else {
             return false;
         };
         for _ in 0..10_000 {
             if made.load(Ordering::SeqCst) >= steps {
                 return true;
             }
-            thread::sleep(self.rt, Duration::from_millis(1));
+            thread::sleep(rt, Duration::from_millis(1));
         }
         false
     }

@@ -1,8 +1,8 @@
 //! A site of two carriers with its stations, pacer and console, from term to term.
 
-use super::meeting::{Hold, Meeting, MeetingPacer, MeetingPort};
+use super::meeting::{Counts, Hold, Meeting, MeetingPacer, MeetingPort};
 use super::stories::{NO_CARRIER, NOTHING_COMES};
-use crate::kept::{both, keep, port_of, push, push_feed};
+use crate::kept::{both, keep, port_of, push, push_feed, two};
 use crate::site::quiet_site;
 use dmr_core::Site;
 use dmr_desk::{
@@ -70,60 +70,90 @@ pub fn new_steps() -> [AtomicU64; 3] {
 }
 
 /// Returns the station of the carrier with this number.
-fn station_of<'a>(
-    rt: &'a HostRuntime,
-    steps: &'a [AtomicU64],
+pub fn station_of<'a>(
+    alloc: Global,
+    counts: Counts<'a>,
     number: u8,
     carrier: &Carrier,
 ) -> Result<CarrierStation<'a>, Fail> {
+    let port = port_of(alloc, carrier_steps(alloc, number, carrier)?)?;
+    let holds = (carrier.wait, carrier.gate);
+    station_with(counts, number, port, Version::V1, holds)
+}
+
+/// Returns the station of the carrier with this number and this port. It serves versions of the link up to `greatest`.
+/// The holds are those of the port's first silence and of the gate's first entry.
+pub fn station_with<'a>(
+    counts: Counts<'a>,
+    number: u8,
+    port: MemoryPort,
+    greatest: Version,
+    holds: (Hold, Hold),
+) -> Result<CarrierStation<'a>, Fail> {
     let actor = usize::from(number);
-    let who = CarrierNo::try_new(u32::from(number)).ok_or("a carrier's number")?;
-    let lpcn = Lpcn::try_new(u32::from(number) + 1).ok_or("a channel")?;
-    let port = port_of(rt.alloc(), carrier_steps(rt.alloc(), number, carrier)?)?;
+    let (wait, gate) = holds;
+    let (port, who) = both(port, carrier_no(number))?;
+    let (port, lpcn) = both(port, lpcn_of(number))?;
     Ok(Station {
-        link: Link::new(who, lpcn, Version::V1),
+        link: Link::new(who, lpcn, greatest),
         port: MeetingPort {
             port,
-            meeting: Meeting::new(rt, steps, actor, carrier.wait),
+            meeting: Meeting::new(counts, actor, wait),
         },
-        gate: Meeting::new(rt, steps, actor, carrier.gate),
+        gate: Meeting::new(counts, actor, gate),
     })
+}
+
+/// Returns the number as a carrier's.
+fn carrier_no(number: u8) -> Result<CarrierNo, Fail> {
+    Ok(CarrierNo::try_new(u32::from(number)).ok_or("a carrier's number")?)
+}
+
+/// Returns the channel of the carrier with this number.
+fn lpcn_of(number: u8) -> Result<Lpcn, Fail> {
+    Ok(Lpcn::try_new(u32::from(number) + 1).ok_or("a channel")?)
 }
 
 /// Adds the station of the carrier with this number.
 fn add_station<'a>(
-    rt: &'a HostRuntime,
-    steps: &'a [AtomicU64],
+    alloc: Global,
+    counts: Counts<'a>,
     stations: &mut Vec<CarrierStation<'a>>,
     number: u8,
     carrier: &Carrier,
 ) -> Result<(), Fail> {
-    push(stations, station_of(rt, steps, number, carrier)?)?;
+    push(stations, station_of(alloc, counts, number, carrier)?)?;
     Ok(())
 }
 
 /// Adds the stations of these carriers.
 fn add_stations<'a>(
-    rt: &'a HostRuntime,
-    steps: &'a [AtomicU64],
+    alloc: Global,
+    counts: Counts<'a>,
     stations: &mut Vec<CarrierStation<'a>>,
     carriers: &[Carrier],
 ) -> Result<(), Fail> {
     for (number, carrier) in [0, 1].into_iter().zip(carriers) {
-        add_station(rt, steps, stations, number, carrier)?;
+        add_station(alloc, counts, stations, number, carrier)?;
     }
     Ok(())
 }
 
 /// Adds stations of carriers with these numbers, a digit each, to which nobody connects.
 fn add_numbered<'a>(
-    rt: &'a HostRuntime,
-    steps: &'a [AtomicU64],
+    alloc: Global,
+    counts: Counts<'a>,
     stations: &mut Vec<CarrierStation<'a>>,
     numbers: &str,
 ) -> Result<(), Fail> {
     for digit in numbers.bytes() {
-        add_station(rt, steps, stations, digit.wrapping_sub(b'0'), &NO_CARRIER)?;
+        add_station(
+            alloc,
+            counts,
+            stations,
+            digit.wrapping_sub(b'0'),
+            &NO_CARRIER,
+        )?;
     }
     Ok(())
 }
@@ -177,7 +207,7 @@ fn add_console_steps(
 }
 
 /// Returns the console, and its port with these octets of an operator.
-fn console_of(alloc: Global, operator: &[u8]) -> Result<ConsoleStation<MemoryPort>, Fail> {
+pub fn console_of(alloc: Global, operator: &[u8]) -> Result<ConsoleStation<MemoryPort>, Fail> {
     let mut steps = Vec::new(alloc);
     let added = add_console_steps(alloc, &mut steps, operator);
     let port = port_of(alloc, keep(added, steps)?)?;
@@ -189,20 +219,30 @@ fn console_of(alloc: Global, operator: &[u8]) -> Result<ConsoleStation<MemoryPor
 
 /// Returns the stage of the first term with these stations and a site on which nothing is up.
 fn stage_of<'a>(
-    rt: &'a HostRuntime,
-    steps: &'a [AtomicU64],
+    alloc: Global,
+    counts: Counts<'a>,
     stations: Vec<CarrierStation<'a>>,
     opening: &Opening,
 ) -> Result<TermStage<'a>, Fail> {
-    let alloc = rt.alloc();
     let (stations, console) = both(stations, console_of(alloc, opening.operator))?;
+    stage_with(alloc, counts, stations, console, opening)
+}
+
+/// Returns the stage of the first term with these stations, this console, and a site on which nothing is up.
+fn stage_with<'a>(
+    alloc: Global,
+    counts: Counts<'a>,
+    stations: Vec<CarrierStation<'a>>,
+    console: ConsoleStation<MemoryPort>,
+    opening: &Opening,
+) -> Result<TermStage<'a>, Fail> {
     let ((stations, console), site) = both((stations, console), quiet_site(alloc))?;
     Ok(TermStage {
         site,
         stations,
         pacer: MeetingPacer {
             paces: opening.paces,
-            meeting: Meeting::new(rt, steps, 2, opening.pacer),
+            meeting: Meeting::new(counts, 2, opening.pacer),
         },
         console,
     })
@@ -275,8 +315,38 @@ impl<'a> TermStage<'a> {
         opening: &Opening,
     ) -> Result<Self, Fail> {
         let mut stations = Vec::new(rt.alloc());
-        let added = add_stations(rt, steps, &mut stations, opening.carriers);
-        stage_of(rt, steps, keep(added, stations)?, opening)
+        let added = add_stations(
+            rt.alloc(),
+            Some((rt, steps)),
+            &mut stations,
+            opening.carriers,
+        );
+        stage_of(
+            rt.alloc(),
+            Some((rt, steps)),
+            keep(added, stations)?,
+            opening,
+        )
+    }
+
+    /// Returns the stage of a term with these ports of carrier 0 and of the console. The carrier's link serves versions
+    /// up to `greatest`. Nobody connects to carrier 1, and nothing is held.
+    pub fn of_ports(
+        alloc: Global,
+        ports: (MemoryPort, MemoryPort),
+        greatest: Version,
+    ) -> Result<Self, Fail> {
+        let (of_carrier, of_console) = ports;
+        let first = station_with(None, 0, of_carrier, greatest, (Hold::Free, Hold::Free));
+        let (of_console, first) = both(of_console, first)?;
+        let (ends, second) = both((of_console, first), station_of(alloc, None, 1, &NO_CARRIER))?;
+        let (port, first) = ends;
+        let (port, stations) = both(port, two(alloc, first, second))?;
+        let console = ConsoleStation {
+            link: ConsoleLink::new(),
+            port,
+        };
+        stage_with(alloc, None, stations, console, &NOTHING_COMES)
     }
 
     /// Returns a stage without any input, with stations of carriers of these numbers, a digit each.
@@ -286,8 +356,13 @@ impl<'a> TermStage<'a> {
         numbers: &str,
     ) -> Result<Self, Fail> {
         let mut stations = Vec::new(rt.alloc());
-        let added = add_numbered(rt, steps, &mut stations, numbers);
-        stage_of(rt, steps, keep(added, stations)?, &NOTHING_COMES)
+        let added = add_numbered(rt.alloc(), Some((rt, steps)), &mut stations, numbers);
+        stage_of(
+            rt.alloc(),
+            Some((rt, steps)),
+            keep(added, stations)?,
+            &NOTHING_COMES,
+        )
     }
 
     /// Runs a term.

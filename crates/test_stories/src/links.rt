@@ -1,9 +1,7 @@
-//! Stories of links, over ports that fail at any call.
+//! Stories of links whose calls stop and go on later, over ports that fail. `cases/links` has what one term shows.
 
 mod answers;
-mod carriers;
 mod desk;
-mod frames;
 mod gate;
 mod numbered;
 mod operators;
@@ -23,10 +21,6 @@ pub type LinkStory = (&'static str, &'static str);
 fn links_of_carriers(rt: HostRuntime) -> Result<(), Fail> {
     dmr_link::laws::limits_are_stated();
     let peer = TestedLink::carrier();
-    run_stories(&rt, &peer, &carriers::READS, "")?;
-    run_stories(&rt, &peer, &carriers::WRITES, "")?;
-    run_stories(&rt, &peer, &frames::NO_FRAMES, "")?;
-    run_stories(&rt, &peer, &frames::FRAMES, "")?;
     run_stories(&rt, &peer, &terms::PAUSES, "")?;
     run_stories(&rt, &peer, &terms::STOPS, "")?;
     run_stories(&rt, &peer, &terms::CUTS, "")?;
@@ -37,9 +31,6 @@ fn links_of_carriers(rt: HostRuntime) -> Result<(), Fail> {
 #[test]
 fn links_of_operators(rt: HostRuntime) -> Result<(), Fail> {
     let peer = TestedLink::operator();
-    run_stories(&rt, &peer, &operators::READS, "")?;
-    run_stories(&rt, &peer, &operators::WRITES, "")?;
-    run_stories(&rt, &peer, &operators::LINES, "")?;
     run_stories(&rt, &peer, &operators::STOPS, "")?;
     run_stories(&rt, &peer, &operators::ENDINGS, operators::AGAIN)
 }

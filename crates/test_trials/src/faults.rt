@@ -195,6 +195,9 @@ fn ended_of(name: &str) -> Option<Ended> {
         "write fault" => Some(Ended::WriteFault),
         "bad length" => Some(Ended::BadFrame(Cause::BadLength)),
         "bad slot" => Some(Ended::BadFrame(Cause::BadSlot)),
+        "bad pad" => Some(Ended::BadFrame(Cause::BadPad)),
+        "no hello" => Some(Ended::BadFrame(Cause::NoHello)),
+        "second hello" => Some(Ended::BadFrame(Cause::SecondHello)),
         "unknown type" => Some(Ended::BadFrame(Cause::UnknownType)),
         _ => None,
     }

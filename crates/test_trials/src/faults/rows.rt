@@ -48,6 +48,35 @@ pub static ROWS: &str = "\
 6 to 33: connect, first N, 17 x read interrupted, connect, first 36 => ULUHPL; 3 33; closed
 0 to 2: connect, first 36, N x write 1, write fault, connect, first 36 => ULUHPL; N 33; closed
 3 to 32: connect, first 36, N x write 1, write fault, connect, first 36 => UHPLUHPL; N 33; closed
+== carrier in version 1: octets with which no frame begins
+0 to 0: connect, hex 00 => -; 0; unknown type
+6 to 7: connect, hex NN => -; 0; unknown type
+255 to 255: connect, hex NN => -; 0; unknown type
+6 to 7: connect, hex 010401000001NN0300 => UL; 3; unknown type
+129 to 131: connect, hex 010401000001NN0300 => UL; 3; unknown type
+2 to 3: connect, hex 010401000001021ANN => UL; 3; bad slot
+255 to 255: connect, hex 010401000001021ANN => UL; 3; bad slot
+2 to 3: connect, hex 0104010000010401NN => UL; 3; bad slot
+255 to 255: connect, hex 0104010000010401NN => UL; 3; bad slot
+129 to 143: connect, first 33, hex NN0300 => UL; 3; bad pad
+== carrier in version 1: a first frame that is no HELLO
+0 to 0: connect, hex 0300 => -; 0; no hello
+0 to 0: connect, hex 0500 => -; 0; no hello
+0 to 0: connect, hex 040100 => -; 0; no hello
+0 to 0: connect, behind 6 => -; 0; no hello
+0 to 0: connect, hex 03000104010000010300 => -; 0; no hello
+== carrier in version 1: a fault behind good frames in one piece
+0 to 0: connect, hex 010401000001021A000EB49CDF34F2749CECBA5CB3B7C40E88138C9A38F96248E18003000104010000010300 => UHPL; 33; second hello
+0 to 0: connect, hex 010401000001021A000EB49CDF34F2749CECBA5CB3B7C40E88138C9A38F96248E18003000104020000010300 => UHPL; 33; second hello
+0 to 0: connect, hex 010401000001021A000EB49CDF34F2749CECBA5CB3B7C40E88138C9A38F96248E1800300060300 => UHPL; 33; unknown type
+0 to 0: connect, hex 010401000001021A000EB49CDF34F2749CECBA5CB3B7C40E88138C9A38F96248E180030003010300 => UHPL; 33; bad length
+0 to 0: connect, hex 010401000001021A000EB49CDF34F2749CECBA5CB3B7C40E88138C9A38F96248E18003000401020300 => UHPL; 33; bad slot
+0 to 0: connect, hex 010401000001021A000EB49CDF34F2749CECBA5CB3B7C40E88138C9A38F96248E180030005000300 => UHPL; 33; closed
+0 to 0: connect, hex 010401000001, first 33, hex 81 => UL; 3; second hello
+== carrier in version 1: nothing is made of what stands behind a write that failed
+0 to 0: connect, hex 01040100000103000300050006, write 3, write fault => UPL; 3; write fault
+0 to 0: connect, hex 010402000001, write fault => -; 0; write fault
+0 to 0: connect, hex 010402000001, 17 x write interrupted => -; 0; write fault
 == carrier in version 2: the input ends after N octets
 0 to 5: connect, first N, read end => -; 0; closed
 6 to 34: connect, first N, read end => UL; 3; closed
@@ -112,6 +141,8 @@ pub static ROWS: &str = "\
 61 to 63: connect, first 12, N x write 1, write fault => SY; N; write fault
 0 to 60: connect, first 12, N x write 1, write 0 => S; N; write fault
 61 to 63: connect, first 12, N x write 1, write block => SY; N; write fault
+== operator: what is wrong with a line cannot be written
+0 to 0: connect, hex 68656C6C6F0A737461790A, write fault => -; 0; write fault
 == operator: interruptions in a row
 0 to 12: connect, first N, 16 x read interrupted, behind N => SY; 64; closed
 0 to 6: connect, first N, 17 x read interrupted, behind N => -; 0; read fault

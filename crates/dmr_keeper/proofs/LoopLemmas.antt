@@ -1,12 +1,10 @@
 -- The step of a loop over a journal: the entry that is read is the first of those that are left.
 use Rattle.std.proofs.Common.{◌≡◌, ◌+◌, ◌<◌, ◌≤◌, ℕ, List, [], ◌∷◌, ◌++◌, Bool, true, false, Option, Some, None, cond, drop, length, get_or, map, arith, refl, ap, sym, ◌∙◌, append_assoc}
-use Rattle.std.specs.Prelude.{filter, filter_map}
+use Rattle.std.specs.Prelude.{count_by, filter, filter_map}
 use Rattle.std.specs.List.{cons_option}
 use Rattle.std.proofs.lemmas.List.{drop_more}
 use Rattle.std.proofs.lemmas.List.Sums.{sum_by-cons}
 use Rattle.dmr_core.specs.declared.entry.Entry.{Entry}
-use Rattle.dmr_core.specs.declared.event.Event.{Event}
-use Rattle.dmr_keeper.specs.Counts.{events_that}
 use Rattle.dmr_keeper.specs.Ticks.{is_tick, tick_at, ticks_in, told_along}
 
 -- the elements that are left begin with the one that is read
@@ -29,10 +27,10 @@ pub tick_fits : (journal : List Entry) (i ticks all : ℕ) (entry : Entry) → i
 tick_fits journal i ticks all entry within read so_far = omega (arith, ticks_stay journal i ticks all entry within read so_far)
 
 -- a count so far and that of the entries that are left, after one more entry
-pub count_stays : (test : Event → Bool) (journal : List Entry) (i count all : ℕ) (entry : Entry) (one : ℕ) → i < length journal → entry ≡ get_or journal i entry → one ≡ cond (test entry.event) 1 0 → count + events_that test (drop i journal) ≡ all → count + one + events_that test (drop (i + 1) journal) ≡ all
+pub count_stays : (test : Entry → Bool) (journal : List Entry) (i count all : ℕ) (entry : Entry) (one : ℕ) → i < length journal → entry ≡ get_or journal i entry → one ≡ cond (test entry) 1 0 → count + count_by test (drop i journal) ≡ all → count + one + count_by test (drop (i + 1) journal) ≡ all
 count_stays test journal i count all entry one within read is so_far =
-    let first = sum_by-cons (λ (e : Entry). cond (test e.event) 1 0) entry (drop (i + 1) journal) in
-    let rest = ap (λ (xs : List Entry). events_that test xs) (rest_is journal i entry within read) in
+    let first = sum_by-cons (λ (e : Entry). cond (test e) 1 0) entry (drop (i + 1) journal) in
+    let rest = ap (λ (xs : List Entry). count_by test xs) (rest_is journal i entry within read) in
     omega (arith, first, rest, is, so_far)
 
 -- a state that goes on with each element

@@ -1,6 +1,6 @@
 //! The counts of a term for each carrier.
 
-ghost use Rattle.std.specs.Prelude.{◌≡◌, ◌≤◌, ◌++◌, cond, IfOk, OnOk};
+ghost use Rattle.std.specs.Prelude.{◌≡◌, ◌++◌, IfOk, OnOk};
 ghost use Rattle.std.specs.List.{list_any};
 ghost use Rattle.std.specs.Option.{option_to_list};
 ghost use Rattle.dmr_core.specs.declared.entry.Entry.{Entry as AnEntry};
@@ -10,6 +10,7 @@ ghost use Rattle.dmr_keeper.specs.Carriers.{is_of_carrier as belongs_to};
 ghost use Rattle.dmr_keeper.specs.Counts.{is_active as tells_activity, is_heard as hears};
 ghost use Rattle.dmr_keeper.specs.Counts.{is_noise as tells_noise, is_poll as polls};
 
+use crate::counts::one_if;
 use dmr_core::{Entry, Event};
 use dmr_pdu::{CarrierNo, OutOfMemory};
 use std::alloc::Global;
@@ -38,14 +39,6 @@ fn is_of_carrier(carrier: CarrierNo, event: &Event) -> bool
         Event::Heard(slot, _) | Event::Noise(slot) | Event::Active(slot) => slot.carrier == carrier,
         Event::Tick | Event::Say(_) => false,
     }
-}
-
-/// 1 if it is so, and 0 if it is not.
-fn one_if(is_so: bool) -> usize
-    ensures counted { result ≡ cond is_so 1 0 }
-    ensures few { result ≤ 1 }
-{
-    if is_so { 1 } else { 0 }
 }
 
 /// Reports whether an event is a poll of the carrier.

@@ -1,9 +1,9 @@
 //! The counts of a term.
 
-ghost use Rattle.std.specs.Prelude.{◌≡◌, count_by, length};
+ghost use Rattle.std.specs.Prelude.{◌≡◌, ◌≤◌, cond};
 ghost use Rattle.std.specs.List.{list_any};
 ghost use Rattle.dmr_core.specs.Sound.{is_grant as grants};
-ghost use Rattle.dmr_keeper.specs.Counts.{counts_with, entries_with, events_that};
+ghost use Rattle.dmr_keeper.specs.Counts.{counts_with};
 ghost use Rattle.dmr_keeper.specs.Counts.{is_active as tells_activity, is_begun as begins};
 ghost use Rattle.dmr_keeper.specs.Counts.{is_command as commands, is_granting as queues_a_grant};
 ghost use Rattle.dmr_keeper.specs.Counts.{is_heard as hears, is_joined as joins};
@@ -14,7 +14,7 @@ ghost use Rattle.dmr_keeper.specs.Ticks.{ticks_in};
 
 use crate::notes::occurrence_of_act;
 use crate::ticks::is_tick;
-use dmr_core::{Act, Entry, Event};
+use dmr_core::{Act, Acts, Entry, Event};
 use dmr_pdu::Pdu;
 
 /// How often things happened in a term. A count of entries counts each entry once, however many acts of the kind it
@@ -131,48 +131,6 @@ fn is_refusing(act: &Act) -> bool
     occurrence_of_act(act).is_some()
 }
 
-fn heard_in(journal: &[Entry]) -> usize
-    ensures { result ≡ events_that hears journal.now }
-{
-    journal
-        .iter()
-        .filter(|entry| is_heard(&entry.event))
-        .count()
-}
-
-fn requests_in(journal: &[Entry]) -> usize
-    ensures { result ≡ events_that requests journal.now }
-{
-    journal
-        .iter()
-        .filter(|entry| is_request(&entry.event))
-        .count()
-}
-
-fn noise_in(journal: &[Entry]) -> usize
-    ensures { result ≡ events_that tells_noise journal.now }
-{
-    journal
-        .iter()
-        .filter(|entry| is_noise(&entry.event))
-        .count()
-}
-
-fn activity_in(journal: &[Entry]) -> usize
-    ensures { result ≡ events_that tells_activity journal.now }
-{
-    journal
-        .iter()
-        .filter(|entry| is_active(&entry.event))
-        .count()
-}
-
-fn polls_in(journal: &[Entry]) -> usize
-    ensures { result ≡ events_that polls journal.now }
-{
-    journal.iter().filter(|entry| is_poll(&entry.event)).count()
-}
-
 /// The ticks of a journal.
 pub fn count_ticks(journal: &[Entry]) -> usize
     ensures { result ≡ ticks_in journal.now }
@@ -180,108 +138,117 @@ pub fn count_ticks(journal: &[Entry]) -> usize
     journal.iter().filter(|entry| is_tick(&entry.event)).count()
 }
 
-fn commands_in(journal: &[Entry]) -> usize
-    ensures { result ≡ events_that commands journal.now }
+fn grants_any(acts: &Acts) -> bool
+    ensures { result ≡ list_any queues_a_grant acts.now.list }
 {
-    journal
-        .iter()
-        .filter(|entry| is_command(&entry.event))
-        .count()
+    acts.list.as_slice().iter().any(|act| is_granting(act))
 }
 
-fn grants_any(acts: &[Act]) -> bool
-    ensures { result ≡ list_any queues_a_grant acts.now }
+fn fills_any(acts: &Acts) -> bool
+    ensures { result ≡ list_any fills_with_a_grant acts.now.list }
 {
-    acts.iter().any(|act| is_granting(act))
+    acts.list.as_slice().iter().any(|act| is_late_entry(act))
 }
 
-fn fills_any(acts: &[Act]) -> bool
-    ensures { result ≡ list_any fills_with_a_grant acts.now }
+fn joins_any(acts: &Acts) -> bool
+    ensures { result ≡ list_any joins acts.now.list }
 {
-    acts.iter().any(|act| is_late_entry(act))
+    acts.list.as_slice().iter().any(|act| is_joined(act))
 }
 
-fn joins_any(acts: &[Act]) -> bool
-    ensures { result ≡ list_any joins acts.now }
+fn begins_any(acts: &Acts) -> bool
+    ensures { result ≡ list_any begins acts.now.list }
 {
-    acts.iter().any(|act| is_joined(act))
+    acts.list.as_slice().iter().any(|act| is_begun(act))
 }
 
-fn begins_any(acts: &[Act]) -> bool
-    ensures { result ≡ list_any begins acts.now }
+fn refuses_any(acts: &Acts) -> bool
+    ensures { result ≡ list_any refuses acts.now.list }
 {
-    acts.iter().any(|act| is_begun(act))
+    acts.list.as_slice().iter().any(|act| is_refusing(act))
 }
 
-fn refuses_any(acts: &[Act]) -> bool
-    ensures { result ≡ list_any refuses acts.now }
+/// 1 if it is so, and 0 if it is not.
+pub fn one_if(is_so: bool) -> usize
+    ensures counted { result ≡ cond is_so 1 0 }
+    ensures few { result ≤ 1 }
 {
-    acts.iter().any(|act| is_refusing(act))
+    if is_so { 1 } else { 0 }
 }
 
-fn grants_in(journal: &[Entry]) -> usize
-    ensures { result ≡ entries_with queues_a_grant journal.now }
-{
-    journal
-        .iter()
-        .filter(|entry| grants_any(entry.acts.list.as_slice()))
-        .count()
-}
+impl TermCounts {
+    /// No entry.
+    pub const NONE: TermCounts = TermCounts {
+        entries: 0,
+        heard: 0,
+        requests: 0,
+        noise: 0,
+        active: 0,
+        polls: 0,
+        ticks: 0,
+        commands: 0,
+        grants: 0,
+        late_entries: 0,
+        registrations: 0,
+        refusals: 0,
+        begun: 0,
+        ended: 0,
+        most_lines: 0,
+    };
 
-fn late_entries_in(journal: &[Entry]) -> usize
-    ensures { result ≡ entries_with fills_with_a_grant journal.now }
-{
-    journal
-        .iter()
-        .filter(|entry| fills_any(entry.acts.list.as_slice()))
-        .count()
-}
-
-fn registrations_in(journal: &[Entry]) -> usize
-    ensures { result ≡ entries_with joins journal.now }
-{
-    journal
-        .iter()
-        .filter(|entry| joins_any(entry.acts.list.as_slice()))
-        .count()
-}
-
-fn begun_in(journal: &[Entry]) -> usize
-    ensures { result ≡ entries_with begins journal.now }
-{
-    journal
-        .iter()
-        .filter(|entry| begins_any(entry.acts.list.as_slice()))
-        .count()
-}
-
-fn refusals_in(journal: &[Entry]) -> usize
-    ensures { result ≡ entries_with refuses journal.now }
-{
-    journal
-        .iter()
-        .filter(|entry| refuses_any(entry.acts.list.as_slice()))
-        .count()
+    /// Counts the entries of a journal. How many calls ended, and how many lines waited, depends on the terms before
+    /// it and is not counted: both are 0.
+    pub fn of_entries(journal: &[Entry]) -> TermCounts
+        ensures { result ≡ counts_with journal.now 0 0 }
+    {
+        counts_of(journal, 0, 0)
+    }
 }
 
 /// The counts of a journal in which this many calls ended, and this many lines waited at once at most.
 pub fn counts_of(journal: &[Entry], ended: usize, most_lines: usize) -> TermCounts
     ensures { result ≡ counts_with journal.now ended most_lines }
 {
+    let mut heard = 0;
+    let mut requests = 0;
+    let mut noise = 0;
+    let mut active = 0;
+    let mut polls = 0;
+    let mut ticks = 0;
+    let mut commands = 0;
+    let mut grants = 0;
+    let mut late_entries = 0;
+    let mut registrations = 0;
+    let mut refusals = 0;
+    let mut begun = 0;
+    for entry in journal {
+        heard += one_if(is_heard(&entry.event));
+        requests += one_if(is_request(&entry.event));
+        noise += one_if(is_noise(&entry.event));
+        active += one_if(is_active(&entry.event));
+        polls += one_if(is_poll(&entry.event));
+        ticks += one_if(is_tick(&entry.event));
+        commands += one_if(is_command(&entry.event));
+        grants += one_if(grants_any(&entry.acts));
+        late_entries += one_if(fills_any(&entry.acts));
+        registrations += one_if(joins_any(&entry.acts));
+        refusals += one_if(refuses_any(&entry.acts));
+        begun += one_if(begins_any(&entry.acts));
+    }
     TermCounts {
         entries: journal.len(),
-        heard: heard_in(journal),
-        requests: requests_in(journal),
-        noise: noise_in(journal),
-        active: activity_in(journal),
-        polls: polls_in(journal),
-        ticks: count_ticks(journal),
-        commands: commands_in(journal),
-        grants: grants_in(journal),
-        late_entries: late_entries_in(journal),
-        registrations: registrations_in(journal),
-        refusals: refusals_in(journal),
-        begun: begun_in(journal),
+        heard,
+        requests,
+        noise,
+        active,
+        polls,
+        ticks,
+        commands,
+        grants,
+        late_entries,
+        registrations,
+        refusals,
+        begun,
         ended,
         most_lines,
     }

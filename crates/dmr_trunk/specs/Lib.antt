@@ -1,6 +1,5 @@
 pub mod Beat
 pub mod Replay
-pub mod Tally
 pub mod Scripts
 pub mod Stored
 pub mod Served

@@ -7,8 +7,7 @@
 //! of `dmr_link`. `opening` opens a port of `dmr_port` for each carrier and for operators, over `mio_sockets`. It also
 //! opens the `pacer` for the ticks: `beat` decides when one is due, and `clock` reads the time. `serve` opens the rest.
 //! `row` runs terms of `dmr_desk`, and `wakers` end their waits when a term is over. `notes` writes the log: `port_watch`
-//! has the notes of a port, and `term_log` those of terms. `tally` counts what a journal shows, and `ends` what happens
-//! at the ports.
+//! has the notes of a port, and `term_log` those of terms. `ends` counts what happens at the ports.
 //!
 //! If the environment names a folder for the program's state, records are kept there in a file of `dmr_records`.
 //! `recorded` makes those of each term. `keeping` hands them to the store while terms go on. `restart` reads which
@@ -42,7 +41,6 @@ mod scripted;
 mod serve;
 mod serving;
 mod store;
-mod tally;
 mod term_log;
 mod wakers;
 

@@ -1,7 +1,7 @@
 //! Notes: the serving program's log, on standard error.
 
 use crate::script::ScriptFault;
-use crate::term_log::TermCounts;
+use crate::term_log::Happened;
 use dmr_command::VERSION;
 use dmr_keeper::{KeepFault, MOST_WAITING};
 use dmr_pdu::OutOfMemory;
@@ -171,14 +171,14 @@ impl<'a, R: Log> Notes<'a, R> {
     }
 
     /// Notes that a term was audited.
-    pub fn note_term(&mut self, term: &TermCounts) {
+    pub fn note_term(&mut self, term: &Happened) {
         if self.is_ready() {
             info!(*self.rt; target: TARGET, "term ended: {term}");
         }
     }
 
     /// Notes that terms were audited that were not noted, with their counts together.
-    pub fn more_terms_ended(&mut self, count: u32, terms: &TermCounts) {
+    pub fn more_terms_ended(&mut self, count: u32, terms: &Happened) {
         if self.is_ready() {
             info!(*self.rt; target: TARGET, "{count} more terms ended: {terms}");
         }

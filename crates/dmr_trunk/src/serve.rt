@@ -14,13 +14,12 @@ use crate::recorded::RecordMaker;
 use crate::row::{Books, Ran, serve_service};
 use crate::script::{RecordingFile, Script};
 use crate::scripted::{Recording, Scripted};
-use crate::tally::tally_of;
 use crate::term_log::TermLog;
 use crate::wakers::{Polls, Wakers};
 use dmr_command::ServeFault;
 use dmr_core::Site;
 use dmr_desk::{ConsoleStation, Observer, Pacer, Service, Station, Term};
-use dmr_keeper::{Carried, Forget, Keeper, Outbox, Recorder};
+use dmr_keeper::{Carried, Forget, Keeper, Outbox, Recorder, TermCounts};
 use dmr_link::Gate;
 use dmr_pdu::{Address, OutOfMemory};
 use dmr_plan::Plan;
@@ -58,9 +57,9 @@ impl<'a, R: Log + Clock> Observer<CarrierAt<'a, R>, ClockPacer<'a, R>, ConsoleAt
     ghost seen = { λ log. None };
 
     fn ended(&mut self, term: &Term<CarrierAt<'a, R>, ClockPacer<'a, R>, ConsoleAt<'a, R>>) {
-        let tally = tally_of(term.report.journal.as_slice());
+        let counts = TermCounts::of_entries(term.report.journal.as_slice());
         let connections = connections_of(term.stations.as_slice(), &term.console);
-        self.note_term(tally, &connections);
+        self.note_term(counts, &connections);
     }
 }
 

@@ -4,8 +4,8 @@ use crate::clock::milliseconds;
 use crate::ends::Connections;
 use crate::notes::Notes;
 use crate::port_watch::PortWatch;
-use crate::tally::Tally;
 use crate::wakers::Wakers;
+use dmr_keeper::TermCounts;
 use dmr_port::{NoteLimit, Verdict};
 use log::Log;
 use std::fmt;
@@ -13,40 +13,46 @@ use std::time::Clock;
 
 /// What happened in a term, or in several.
 #[derive(Clone, Copy, Debug)]
-pub struct TermCounts {
-    /// What its journal shows.
-    pub tally: Tally,
-    /// The connections of its ports.
+pub struct Happened {
+    /// What the journals show.
+    pub counts: TermCounts,
+    /// The connections of the ports.
     pub connections: Connections,
 }
 
-impl TermCounts {
+impl Happened {
     /// Nothing happened.
-    const NONE: TermCounts = TermCounts {
-        tally: Tally::NONE,
+    const NOTHING: Happened = Happened {
+        counts: TermCounts::NONE,
         connections: Connections::NONE,
     };
 
-    /// Adds what happened in another term.
-    fn add_all(&mut self, other: &TermCounts) {
-        self.tally.add_all(&other.tally);
+    /// Adds what happened in another term. A count that is noted stays at its greatest.
+    fn add_all(&mut self, other: &Happened) {
+        let (counts, more) = (&mut self.counts, &other.counts);
+        counts.entries = counts.entries.saturating_add(more.entries);
+        counts.polls = counts.polls.saturating_add(more.polls);
+        counts.heard = counts.heard.saturating_add(more.heard);
+        counts.noise = counts.noise.saturating_add(more.noise);
+        counts.registrations = counts.registrations.saturating_add(more.registrations);
+        counts.refusals = counts.refusals.saturating_add(more.refusals);
         self.connections.add_all(&other.connections);
     }
 }
 
-impl fmt::Display for TermCounts {
+impl fmt::Display for Happened {
     fn fmt<W: fmt::Write>(&self, f: &mut fmt::Formatter<W>) -> fmt::Result {
-        let tally = &self.tally;
+        let counts = &self.counts;
         let ports = &self.connections;
         write!(
             f,
             "{} entries, {} polls, {} bursts, {} noise, {} registrations, {} refusals; ",
-            tally.entries,
-            tally.polls,
-            tally.bursts,
-            tally.noises,
-            tally.registrations,
-            tally.refusals
+            counts.entries,
+            counts.polls,
+            counts.heard,
+            counts.noise,
+            counts.registrations,
+            counts.refusals
         )?;
         write!(
             f,
@@ -65,7 +71,7 @@ pub struct TermLog<'a, R> {
     wakers: &'a Wakers,
     limit: NoteLimit,
     // The counts of the terms that were not noted, together.
-    dropped: TermCounts,
+    dropped: Happened,
     // All connections up to the end of the last term.
     before: Connections,
 }
@@ -78,7 +84,7 @@ impl<'a, R: Log + Clock> TermLog<'a, R> {
             notes,
             wakers,
             limit: NoteLimit::new(),
-            dropped: TermCounts::NONE,
+            dropped: Happened::NOTHING,
             before: Connections::NONE,
         }
     }
@@ -91,10 +97,10 @@ impl<'a, R: Log + Clock> TermLog<'a, R> {
     }
 
     /// Notes that a term was audited. `connections` are all of its ports so far, in earlier terms too.
-    pub fn note_term(&mut self, tally: Tally, connections: &Connections) {
+    pub fn note_term(&mut self, counts: TermCounts, connections: &Connections) {
         self.wakers.make_ready();
-        let term = TermCounts {
-            tally,
+        let term = Happened {
+            counts,
             connections: connections.since(&self.before),
         };
         self.before = *connections;
@@ -103,7 +109,7 @@ impl<'a, R: Log + Clock> TermLog<'a, R> {
             Verdict::Write => self.notes.note_term(&term),
             Verdict::WriteAfter(terms) => {
                 self.notes.more_terms_ended(terms, &self.dropped);
-                self.dropped = TermCounts::NONE;
+                self.dropped = Happened::NOTHING;
                 self.notes.note_term(&term);
             }
             Verdict::Drop => self.dropped.add_all(&term),

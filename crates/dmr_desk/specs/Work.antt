@@ -225,17 +225,17 @@ WasRefused (Served happened ended.TermOver ∷ earlier) = Unit {0}
 WasRefused (Waited Silent deposits ∷ earlier) = Unit {0}
 WasRefused other = ⊥
 
--- the desk was asked once for each step. If the term is over, it was asked once more, and then there was no other step;
--- or else the last step met a refusal. So if the desk returns at the k-th question that the term is over, k - 1 steps
--- were made: whatever a desk returns, the worker asks it before each step, and at no other time
+-- the desk was asked once for each step. If the term is over, it was asked once more; or else the last step met a
+-- refusal. So if the desk returns at the k-th question that the term is over, k - 1 steps were made. The numbers are
+-- compared: that each question comes before its step is read in the worker's body
 abbrev pub AsksForEach : Option ℕ → List Step → Ending → Option ℕ → Type 0
 AsksForEach before doings ending.TermOver after =
     Questioned before (length doings + 1) after
     ⊎ (WasRefused doings × Questioned before (length doings) after)
 AsksForEach before doings e after = Questioned before (length doings) after
 
--- a worker's whole work: steps that lead from `m` to `n` and allow its ending. Before each of them the worker asks the
--- desk whether the term is over
+-- a worker's whole work: steps that lead from `m` to `n` and allow its ending. For each of them the worker asks the desk
+-- whether the term is over
 abbrev pub WorksUntil : WorkState → WorkState → Ending → Type 0
 WorksUntil m n e =
     (doings : List Step) × Steps m n doings × EndsFor e n.at.link doings

@@ -201,8 +201,8 @@ where
         (start_at P.reported G.passed T.paced C.reported limit service) refused.fault) }
     // All of the service is as it was: the site, the links' states and the ports' records among the rest.
     ensures left { IfErr result (λ refused. refused.left ≡ left_at refused.fault service) }
-    // At `Early` this term is what the worker's answers, the ports and the pacer made of it. It is not chosen by the
-    // body.
+    // At `Early` and `Audit`, a term that this start can have. That it is the one that ran is read in the body: no value
+    // shows that threads were started.
     ensures ended { IfErr result (λ refused. IsEndAt
         (start_at P.reported G.passed T.paced C.reported limit service) refused.fault
         (option_map (end_at P.reported G.passed T.paced C.reported) refused.ended)) }

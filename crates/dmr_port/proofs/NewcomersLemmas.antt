@@ -1,6 +1,6 @@
 -- What is known of newcomers, step by step, and the octets that they have shown.
-use Rattle.std.proofs.Common.{◌≡◌, ◌↔◌, ℕ, ◌+◌, zero, suc, Bool, true, false, ◌||◌, List, [], ◌∷◌, ◌++◌, length, take, drop, remove, Option, Some, None, is_some, IsTrue, IfSome, cond, arith, ap, subst, ◌∙◌, sym, refl, inl, inr}
-use Rattle.std.specs.Prelude.{slice_index_or, slice_set, position, option_map}
+use Rattle.std.proofs.Common.{◌≡◌, ◌↔◌, ℕ, ◌+◌, zero, suc, Bool, true, false, ◌||◌, List, [], ◌∷◌, ◌++◌, length, take, remove, Option, Some, None, is_some, IsTrue, IfSome, cond, arith, ap, subst, ◌∙◌, sym, refl, inl, inr}
+use Rattle.std.specs.Prelude.{slice_index_or, slice_set, option_map}
 use Rattle.std.specs.List.{AllZip, list_any, position_from}
 use Rattle.std.proofs.lemmas.Bool.{false≢true, or_cases, or_left, or_right}
 use Rattle.std.proofs.lemmas.Iterator.Adapters.{position_from-zero}
@@ -11,11 +11,12 @@ use Rattle.dmr_port.specs.declared.sockets.Accepted.TheVariants as accepted
 use Rattle.dmr_port.specs.declared.sockets.Peeked.{Peeked}
 use Rattle.dmr_port.specs.declared.sockets.Peeked.TheVariants as peeked
 use Rattle.dmr_port.specs.declared.waiting_room.Newcomer.{Newcomer}
+use Rattle.dmr_port.specs.declared.waiting_room.WaitingRoom.{WaitingRoom}
 use Rattle.dmr_port.specs.declared.whose.Whose.{Whose}
 use Rattle.dmr_port.specs.declared.whose.Whose.TheVariants.{Carrier, Console}
-use Rattle.dmr_port.specs.Newcomers.{AreKnown, IsClaimed, IsClaimedAs, IsKnownAs, IsKnownBy}
+use Rattle.dmr_port.specs.Newcomers.{AreKnown, HasNewcomersOf, IsClaimed, IsClaimedAs, IsKnownAs, IsKnownBy}
 use Rattle.dmr_port.specs.Settings.{IsClaimOn}
-use Rattle.dmr_port.specs.Sockets.{shown_after_accept, shown_after_peek, shown_without}
+use Rattle.dmr_port.specs.Sockets.{KeepsNewcomers, SocketState, shown_after_accept, shown_after_peek, shown_without}
 use Rattle.dmr_port.specs.WaitingRoom.{place_of_claimant}
 
 -- ---- lists that agree place by place
@@ -74,6 +75,13 @@ known_on settings newcomers newcomers' (Some before) step goes known = record {
 -- nothing more was shown
 pub known_at : (settings : PortSettings) (newcomers : List Newcomer) (shown shown' : Option (List (List ℕ))) → shown' ≡ shown → AreKnown settings newcomers shown → AreKnown settings newcomers shown'
 known_at settings newcomers shown shown' is known = subst (AreKnown settings newcomers) (sym is) known
+
+-- the sockets kept their newcomers
+pub newcomers_kept : (settings : PortSettings) (room : WaitingRoom) (old new : SocketState) → KeepsNewcomers old new → HasNewcomersOf settings room old → HasNewcomersOf settings room new
+newcomers_kept settings room old new keeps has = record {
+  all = keeps.waiting ∙ has.all;
+  known = known_at settings room.newcomers.items old.shown new.shown keeps.shown has.known;
+}
 
 -- there are none
 pub known_none : (settings : PortSettings) (shown : Option (List (List ℕ))) (waiting : ℕ) → IfSome shown (λ octets. length octets ≡ waiting) → waiting ≡ 0 → AreKnown settings [] shown

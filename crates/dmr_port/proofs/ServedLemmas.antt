@@ -7,7 +7,7 @@ use Rattle.dmr_port.specs.declared.cause.CloseCause.{CloseCause}
 use Rattle.dmr_port.specs.declared.served.Served.{Served}
 use Rattle.dmr_port.specs.declared.sockets.Ready.{Ready}
 use Rattle.dmr_port.specs.Newcomers.{IsClaimedAs}
-use Rattle.dmr_port.specs.PortState.{HasWaited, HasWaitedFor, HasWaitedIf, IsFinding, PortState, connection_of, keeps_octets, waited_by}
+use Rattle.dmr_port.specs.PortState.{HasWaited, HasWaitedFor, HasWaitedIf, IsFinding, IsLater, PortState, connection_of, keeps_octets, waited_by}
 use Rattle.dmr_port.specs.Served.{after_wait, cause_of_served}
 use Rattle.dmr_port.specs.Sockets.{Found, found_after}
 
@@ -45,14 +45,16 @@ is_finding before ended counted ready sends was found is began counts = record {
         (omega (arith, time, began), omega (arith, time, counts), ap (λ (x : Found). x.ready) same, ap (λ (x : Found). x.sends) same)
 
 -- a wait of a port, of its parts
-pub has_waited : {W : Type 0} (old new : PortState W) (ready : Ready) (milliseconds : ℕ) (keeps is_claimed : Bool) (result : Waited) → old.clock ≤ new.counted → new.counted ≤ new.clock
+pub has_waited : {W : Type 0} (old new : PortState W) (ready : Ready) (milliseconds : ℕ) (keeps is_claimed : Bool) (result : Waited)
+    → IsLater (record old { connection = new.connection; waiting = new.waiting; witness = new.witness; counted = new.counted; found = new.found; shown = new.shown }) new → old.clock ≤ new.counted → new.counted ≤ new.clock
     → IsFinding old.clock ready keeps new.counted new.found → IsClaimedAs old.settings new.shown is_claimed → milliseconds ≡ min (new.counted - old.counted) 100 → keeps ≡ keeps_octets old.unsent
     → HasWaitedIf old.settings.silence milliseconds keeps ready.connection is_claimed old.connection new.connection result → HasWaited old new result
-has_waited old new ready milliseconds keeps is_claimed result after before finding claim counts is judged =
+has_waited old new ready milliseconds keeps is_claimed result port after before finding claim counts is judged =
     let P : ℕ → Type 0 = λ n. HasWaitedIf old.settings.silence n (keeps_octets old.unsent) ready.connection is_claimed old.connection new.connection result in
     let Q : Bool → Type 0 = λ k. HasWaitedIf old.settings.silence milliseconds k ready.connection is_claimed old.connection new.connection result in
     let R : Bool → Type 0 = λ k. IsFinding old.clock ready k new.counted new.found in
     record {
+      port = port;
       ready = ready;
       is_claimed = is_claimed;
       after = after;

@@ -1,11 +1,14 @@
 -- What a look at a newcomer's first octets says about it, and whether newcomers claim the connection's place.
 use Rattle.std.specs.Prelude.{◌≡◌, ◌↔◌, ◌⊎◌, ℕ, Bool, List, [], ◌∷◌, take, Option, Some, None, IsTrue}
 use Rattle.std.specs.List.{AllZip}
+use Rattle.arrayvec.specs.ArrayVec.{array_vec_len}
 use Rattle.dmr_port.specs.declared.settings.PortSettings.{PortSettings}
 use Rattle.dmr_port.specs.declared.sockets.Peeked.{Peeked}
 use Rattle.dmr_port.specs.declared.sockets.Peeked.TheVariants as peeked
 use Rattle.dmr_port.specs.declared.waiting_room.Newcomer.{Newcomer}
+use Rattle.dmr_port.specs.declared.waiting_room.WaitingRoom.{WaitingRoom}
 use Rattle.dmr_port.specs.Settings.{IsClaim}
+use Rattle.dmr_port.specs.Sockets.{SocketState}
 
 -- a newcomer is known to have sent a HELLO for this carrier exactly if these octets are one
 abbrev pub IsKnownBy : PortSettings → Newcomer → List ℕ → Type 0
@@ -30,6 +33,12 @@ pub record AreKnown (settings : PortSettings) (newcomers : List Newcomer)
     (shown : Option (List (List ℕ))) : Type 0 where
   pub known : (octets : List (List ℕ)) → shown ≡ Some octets
       → AllZip (IsKnownBy settings) newcomers octets
+
+-- the room has the newcomers of these sockets, each known by what it has shown
+pub record HasNewcomersOf (settings : PortSettings) (room : WaitingRoom)
+    (sockets : SocketState) : Type 0 where
+  pub all : sockets.waiting ≡ array_vec_len room.newcomers
+  pub known : AreKnown settings room.newcomers.items sockets.shown
 
 -- some of these octets are a HELLO for this carrier
 abbrev pub IsClaimed : PortSettings → List (List ℕ) → Type 0

@@ -17,14 +17,14 @@ use Rattle.dmr_port.specs.declared.patience.Patience.{Patience}
 use Rattle.dmr_port.specs.declared.served.Served.{Served}
 use Rattle.dmr_port.specs.declared.settings.PortSettings.{PortSettings}
 use Rattle.dmr_port.specs.declared.sockets.Ready.{Ready}
-use Rattle.dmr_port.specs.Budget.{Window, fresh_window}
+use Rattle.dmr_port.specs.Budget.{Gives, Window, fresh_window}
 use Rattle.dmr_port.specs.FirstOctets.{IsHello, begins_http}
 use Rattle.dmr_port.specs.Newcomers.{IsClaimedAs}
 use Rattle.dmr_port.specs.Patience.{new_patience, patience_after_octets, patience_after_wait}
 use Rattle.dmr_port.specs.Served.{cause_of_served}
 use Rattle.dmr_port.specs.Settings.{is_carrier}
 use Rattle.dmr_port.specs.Record.{Agrees, Traffic, no_traffic, traffic_of}
-use Rattle.dmr_port.specs.Sockets.{Found}
+use Rattle.dmr_port.specs.Sockets.{Found, SocketState}
 use Rattle.dmr_port.specs.Unsent.{PassesOctets, ReadsAfterSending}
 
 -- the connection that is served: how long the port has waited for it, its first eight octets, and why it ended, if that
@@ -73,23 +73,36 @@ pub record PortState (W : Type 0) : Type 0 where
   pub found : Option Found
   pub shown : Option (List (List ℕ))
 
--- a port that has done nothing, over sockets with this log, clock, finding, and octets shown
-abbrev pub empty_port : {W : Type 0} → PortSettings → Option (List Answer) → ℕ → Option Found
-    → Option (List (List ℕ)) → W → PortState W
-empty_port settings log clock found shown witness =
+-- a port that has done nothing, over these sockets
+abbrev pub empty_port : {W : Type 0} → PortSettings → SocketState → W → PortState W
+empty_port settings sockets witness =
     record {
       settings = settings;
       connection = None;
       unsent = [];
-      log = log;
+      log = sockets.log;
       waiting = 0;
       window = fresh_window 0;
       witness = witness;
-      clock = clock;
+      clock = sockets.clock;
       counted = 0;
-      found = found;
-      shown = shown;
+      found = sockets.found;
+      shown = sockets.shown;
     }
+
+-- the port is the first one, except that time may have passed
+pub record IsLater {W : Type 0} (old new : PortState W) : Type 0 where
+  pub port : new ≡ record old { clock = new.clock }
+  pub clock : old.clock ≤ new.clock
+
+-- time may pass, and the port serves its connection. The newcomers stay as they were, and so does what waits found
+pub record OnlyServes {W : Type 0} (old new : PortState W) : Type 0 where
+  pub settings : new.settings ≡ old.settings
+  pub waiting : new.waiting ≡ old.waiting
+  pub shown : new.shown ≡ old.shown
+  pub clock : old.clock ≤ new.clock
+  pub counted : new.counted ≡ old.counted
+  pub found : new.found ≡ old.found
 
 -- the port's record agrees with the log of its sockets
 abbrev pub PortAgrees : {W : Type 0} → (W → Option (List Answer)) → PortState W → Type 0
@@ -155,6 +168,12 @@ HasReadFrom is_carrier old got.Fault octets new =
     (new.ended ≡ Some ReadFault) ⊎ (new.ended ≡ Some WriteFault)
 HasReadFrom is_carrier old other octets new = HasReadNothing old new
 
+-- a read of the connection that is served, between these times: what came of it, and that the window allowed its octets
+pub record ReadsInWindow (is_carrier : Bool) (before : ℕ) (window : Window) (old : Served)
+    (result : Got) (octets : List ℕ) (after : ℕ) (window' : Window) (new : Served) : Type 0 where
+  pub budget : Gives before window (count_of result) window' after
+  pub reads : HasReadFrom is_carrier (connection_of old) result octets (connection_of new)
+
 -- a read of a port. Without a connection it fails
 abbrev pub HasRead : Bool → Option Connection → Got → List ℕ → Option Connection → Type 0
 HasRead is_carrier None result octets None = result ≡ got.Fault
@@ -206,8 +225,17 @@ pub record IsFinding (before : ℕ) (ready : Ready) (sends : Bool) (counted : �
   pub finding : (f : Found) → found ≡ Some f
       → (before ≤ f.ended) × (f.ended ≤ counted) × (f.ready ≡ ready) × (f.sends ≡ sends)
 
--- a wait of a port. It counts as the time since waits were last counted, at most as 100 ms
+-- a wait of a port. It counts as the time since waits were last counted, at most as 100 ms. What is kept for the
+-- connection, and what was given in the window, stays as it was
 pub record HasWaited {W : Type 0} (old new : PortState W) (result : Waited) : Type 0 where
+  pub port : IsLater (record old {
+    connection = new.connection;
+    waiting = new.waiting;
+    witness = new.witness;
+    counted = new.counted;
+    found = new.found;
+    shown = new.shown;
+  }) new
   pub ready : Ready
   pub is_claimed : Bool
   pub after : old.clock ≤ new.counted

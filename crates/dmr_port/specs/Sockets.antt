@@ -1,14 +1,46 @@
 -- What the calls of a port's sockets do to the connection that is served and to the newcomers that wait, and what they
 -- find.
-use Rattle.std.specs.Prelude.{ℕ, ◌+◌, ◌≤◌, ◌++◌, Bool, List, [], ◌∷◌, take, remove, slice_set}
+use Rattle.std.specs.Prelude.{◌≡◌, ℕ, ◌+◌, ◌≤◌, ◌++◌, Bool, List, [], ◌∷◌, take, remove, slice_set}
 use Rattle.std.specs.Prelude.{Option, option_map}
 use Rattle.dmr_wire.specs.declared.wire.Put.{Put}
 use Rattle.dmr_wire.specs.declared.wire.Put.TheVariants as put
+use Rattle.dmr_wire.specs.Answers.{Answer}
 use Rattle.dmr_port.specs.declared.sockets.Accepted.{Accepted}
 use Rattle.dmr_port.specs.declared.sockets.Accepted.TheVariants as accepted
 use Rattle.dmr_port.specs.declared.sockets.Peeked.{Peeked}
 use Rattle.dmr_port.specs.declared.sockets.Peeked.TheVariants as peeked
 use Rattle.dmr_port.specs.declared.sockets.Ready.{Ready}
+
+-- what a wait found, whether it was for sending, and the time at its end
+pub record Found : Type 0 where
+  pub ready : Ready
+  pub sends : Bool
+  pub ended : ℕ
+
+-- sockets, as contracts see them: whether there is a connection that is served, the number of newcomers, and the time.
+-- Also, if they are known, the answers of the connection, what the latest wait found, and the octets that each newcomer
+-- has shown
+pub record SocketState : Type 0 where
+  pub is_open : Bool
+  pub waiting : ℕ
+  pub log : Option (List Answer)
+  pub clock : ℕ
+  pub found : Option Found
+  pub shown : Option (List (List ℕ))
+
+-- time may pass, and newcomers may come, show octets and go. The connection stays as it was
+pub record KeepsConnection (old new : SocketState) : Type 0 where
+  pub connection : new.is_open ≡ old.is_open
+  pub log : new.log ≡ old.log
+  pub clock : old.clock ≤ new.clock
+  pub found : new.found ≡ old.found
+
+-- time may pass, and the connection may change. The newcomers stay as they were
+pub record KeepsNewcomers (old new : SocketState) : Type 0 where
+  pub waiting : new.waiting ≡ old.waiting
+  pub shown : new.shown ≡ old.shown
+  pub clock : old.clock ≤ new.clock
+  pub found : new.found ≡ old.found
 
 -- the number of newcomers after an accept: one more if one came
 abbrev pub waiting_after : ℕ → Accepted → ℕ
@@ -24,12 +56,6 @@ PeekedWithin other len = Unit {0}
 abbrev pub taken_by : Put → List ℕ → List ℕ
 taken_by (put.Octets n) octets = take n octets
 taken_by other octets = []
-
--- what a wait found, whether it was for sending, and the time at its end
-pub record Found : Type 0 where
-  pub ready : Ready
-  pub sends : Bool
-  pub ended : ℕ
 
 -- what the latest wait found, after one more
 abbrev pub found_after : Ready → Bool → ℕ → Option Found → Option Found

@@ -2,8 +2,8 @@
 
 ghost use Rattle.std.specs.Prelude.{◌≡◌, ◌+◌, ◌<◌, ◌≤◌, true, false, length};
 ghost use Rattle.arrayvec.specs.ArrayVec.{array_vec_len};
-ghost use Rattle.dmr_port.specs.Newcomers.{AreKnown, IsKnownAs};
-ghost use Rattle.dmr_port.specs.Sockets.{PeekedWithin};
+ghost use Rattle.dmr_port.specs.Newcomers.{HasNewcomersOf, IsKnownAs};
+ghost use Rattle.dmr_port.specs.Sockets.{KeepsConnection, PeekedWithin};
 
 use crate::first_octets::HELLO_OCTETS;
 use crate::settings::PortSettings;
@@ -43,18 +43,13 @@ fn look_at<S: Sockets>(
     place: usize,
 ) -> bool
     requires place { place < array_vec_len room.old.newcomers }
-    requires all { S.waiting sockets.old ≡ array_vec_len room.old.newcomers }
-    requires known { AreKnown settings.now room.old.newcomers.items (S.shown sockets.old) }
-    ensures all { S.waiting sockets.new ≡ array_vec_len room.new.newcomers }
-    ensures known { AreKnown settings.now room.new.newcomers.items (S.shown sockets.new) }
+    requires room { HasNewcomersOf settings.now room.old (S.state sockets.old) }
+    ensures room { HasNewcomersOf settings.now room.new (S.state sockets.new) }
     ensures stays { result ≡ true
         → array_vec_len room.new.newcomers ≡ array_vec_len room.old.newcomers }
     ensures goes { result ≡ false
         → array_vec_len room.new.newcomers + 1 ≡ array_vec_len room.old.newcomers }
-    ensures connection { S.is_open sockets.new ≡ S.is_open sockets.old }
-    ensures log { S.log sockets.new ≡ S.log sockets.old }
-    ensures clock { S.clock sockets.old ≤ S.clock sockets.new }
-    ensures found { S.found sockets.new ≡ S.found sockets.old }
+    ensures connection { KeepsConnection (S.state sockets.old) (S.state sockets.new) }
 {
     let newcomer = room.at(place);
     if newcomer.has_hello {
@@ -78,15 +73,10 @@ fn look_at<S: Sockets>(
 /// Looks at all newcomers that are not known to have sent a HELLO for this carrier. Closes those whose connections have
 /// ended.
 pub fn look_at_all<S: Sockets>(sockets: &mut S, room: &mut WaitingRoom, settings: &PortSettings)
-    requires all { S.waiting sockets.old ≡ array_vec_len room.old.newcomers }
-    requires known { AreKnown settings.now room.old.newcomers.items (S.shown sockets.old) }
-    ensures all { S.waiting sockets.new ≡ array_vec_len room.new.newcomers }
-    ensures known { AreKnown settings.now room.new.newcomers.items (S.shown sockets.new) }
+    requires room { HasNewcomersOf settings.now room.old (S.state sockets.old) }
+    ensures room { HasNewcomersOf settings.now room.new (S.state sockets.new) }
     ensures few { array_vec_len room.new.newcomers ≤ array_vec_len room.old.newcomers }
-    ensures connection { S.is_open sockets.new ≡ S.is_open sockets.old }
-    ensures log { S.log sockets.new ≡ S.log sockets.old }
-    ensures clock { S.clock sockets.old ≤ S.clock sockets.new }
-    ensures found { S.found sockets.new ≡ S.found sockets.old }
+    ensures connection { KeepsConnection (S.state sockets.old) (S.state sockets.new) }
 {
     let mut place = 0;
     while place < room.len() {
@@ -104,16 +94,11 @@ pub fn make_room<S: Sockets>(
     room: &mut WaitingRoom,
     settings: &PortSettings,
 ) -> Option<SocketAddr>
-    requires all { S.waiting sockets.old ≡ array_vec_len room.old.newcomers }
+    requires room { HasNewcomersOf settings.now room.old (S.state sockets.old) }
     requires few { array_vec_len room.old.newcomers ≤ 9 }
-    requires known { AreKnown settings.now room.old.newcomers.items (S.shown sockets.old) }
-    ensures all { S.waiting sockets.new ≡ array_vec_len room.new.newcomers }
-    ensures known { AreKnown settings.now room.new.newcomers.items (S.shown sockets.new) }
+    ensures room { HasNewcomersOf settings.now room.new (S.state sockets.new) }
     ensures few { array_vec_len room.new.newcomers ≤ 8 }
-    ensures connection { S.is_open sockets.new ≡ S.is_open sockets.old }
-    ensures log { S.log sockets.new ≡ S.log sockets.old }
-    ensures clock { S.clock sockets.old ≤ S.clock sockets.new }
-    ensures found { S.found sockets.new ≡ S.found sockets.old }
+    ensures connection { KeepsConnection (S.state sockets.old) (S.state sockets.new) }
 {
     if room.len() <= MOST_WAITING {
         return None;

@@ -2,9 +2,9 @@
 
 ghost use Rattle.std.specs.Prelude.{◌≡◌, ◌≢◌, ◌≤◌, ◌<◌, ℕ, [], ◌∷◌, true, Some, length};
 ghost use Rattle.dmr_wire.specs.Answers.{GotWithin, Reports, of_read};
-ghost use Rattle.dmr_port.specs.Budget.{Gives};
-ghost use Rattle.dmr_port.specs.PortState.{HasReadFrom, HasReadNothing, connection_of, count_of};
+ghost use Rattle.dmr_port.specs.PortState.{HasReadNothing, ReadsInWindow, connection_of};
 ghost use Rattle.dmr_port.specs.Record.{Reads};
+ghost use Rattle.dmr_port.specs.Sockets.{KeepsNewcomers};
 ghost use Rattle.dmr_port.specs.Unsent.{PassesOctets, ReadsAfterSending};
 
 use crate::budget::Budget;
@@ -17,9 +17,9 @@ use dmr_wire::Got;
 /// Sends the octets that are kept, if there are any.
 #[tactic(auto, using(crate::proofs::ReadingLemmas::read_nothing, crate::proofs::ReadingLemmas::read_after_sending, crate::proofs::UnsentLemmas::passes_nothing))]
 fn send_kept<S: Sockets>(sockets: &mut S, unsent: &mut Unsent, served: &mut Served) -> Sent
-    requires { S.is_open sockets.old ≡ true }
-    ensures passes { PassesOctets (S.log sockets.old) unsent.old
-        [] (S.log sockets.new) unsent.new }
+    requires { (S.state sockets.old).is_open ≡ true }
+    ensures passes { PassesOctets (S.state sockets.old).log unsent.old
+        [] (S.state sockets.new).log unsent.new }
     ensures all { result ≡ Sent.All → unsent.new ≡ [] }
     ensures part { result ≡ Sent.Part → unsent.new ≢ [] }
     ensures goes { result ≢ Sent.Fault
@@ -30,11 +30,8 @@ fn send_kept<S: Sockets>(sockets: &mut S, unsent: &mut Unsent, served: &mut Serv
         → served.new.patience.unread ≡ served.old.patience.unread }
     ensures all_sent { unsent.old ≢ [] → result ≡ Sent.All → served.new.patience.unread ≡ 0 }
     ensures first { served.new.first ≡ served.old.first }
-    ensures connection { S.is_open sockets.new ≡ true }
-    ensures waiting { S.waiting sockets.new ≡ S.waiting sockets.old }
-    ensures clock { S.clock sockets.old ≤ S.clock sockets.new }
-    ensures found { S.found sockets.new ≡ S.found sockets.old }
-    ensures shown { S.shown sockets.new ≡ S.shown sockets.old }
+    ensures connection { (S.state sockets.new).is_open ≡ true }
+    ensures newcomers { KeepsNewcomers (S.state sockets.old) (S.state sockets.new) }
 {
     if unsent.is_empty() {
         return Sent::All;
@@ -54,17 +51,14 @@ fn send_kept<S: Sockets>(sockets: &mut S, unsent: &mut Unsent, served: &mut Serv
 
 /// Reads octets of the connection, at most `asked`.
 fn ask<S: Sockets>(sockets: &mut S, octets: &mut [u8], asked: usize) -> Got
-    requires connection { S.is_open sockets.old ≡ true }
+    requires connection { (S.state sockets.old).is_open ≡ true }
     requires some { 0 < asked }
     requires fits { asked ≤ length octets.old }
     ensures within { GotWithin result asked }
-    ensures log { Reports (S.log sockets.old) (of_read result octets.new ∷ [])
-        (S.log sockets.new) }
-    ensures connection { S.is_open sockets.new ≡ true }
-    ensures waiting { S.waiting sockets.new ≡ S.waiting sockets.old }
-    ensures clock { S.clock sockets.old ≤ S.clock sockets.new }
-    ensures found { S.found sockets.new ≡ S.found sockets.old }
-    ensures shown { S.shown sockets.new ≡ S.shown sockets.old }
+    ensures log { Reports (S.state sockets.old).log (of_read result octets.new ∷ [])
+        (S.state sockets.new).log }
+    ensures connection { (S.state sockets.new).is_open ≡ true }
+    ensures newcomers { KeepsNewcomers (S.state sockets.old) (S.state sockets.new) }
 {
     sockets.read(&mut octets[..asked])
 }
@@ -80,21 +74,16 @@ fn read_sockets<S: Sockets>(
     is_carrier: bool,
     octets: &mut [u8],
 ) -> Got
-    requires connection { S.is_open sockets.old ≡ true }
+    requires connection { (S.state sockets.old).is_open ≡ true }
     requires some { 0 < length octets.old }
     ensures within { GotWithin result (length octets.new) }
-    ensures log { Reads is_carrier served.old.first.octets.items (S.log sockets.old)
-        result octets.new served.new.first.octets.items (S.log sockets.new) }
-    ensures budget { Gives (S.clock sockets.old) budget.old (count_of result) budget.new
-        (S.clock sockets.new) }
-    ensures reads { HasReadFrom is_carrier (connection_of served.old) result octets.new
-        (connection_of served.new) }
+    ensures log { Reads is_carrier served.old.first.octets.items (S.state sockets.old).log
+        result octets.new served.new.first.octets.items (S.state sockets.new).log }
+    ensures reads { ReadsInWindow is_carrier (S.state sockets.old).clock budget.old served.old
+        result octets.new (S.state sockets.new).clock budget.new served.new }
     ensures unread { served.new.patience.unread ≡ served.old.patience.unread }
-    ensures connection { S.is_open sockets.new ≡ true }
-    ensures waiting { S.waiting sockets.new ≡ S.waiting sockets.old }
-    ensures clock { S.clock sockets.old ≤ S.clock sockets.new }
-    ensures found { S.found sockets.new ≡ S.found sockets.old }
-    ensures shown { S.shown sockets.new ≡ S.shown sockets.old }
+    ensures connection { (S.state sockets.new).is_open ≡ true }
+    ensures newcomers { KeepsNewcomers (S.state sockets.old) (S.state sockets.new) }
 {
     let now = sockets.now();
     let asked = octets.len().min(usize::from(budget.left_at(now)));
@@ -129,28 +118,23 @@ pub fn read_connection<S: Sockets>(
     is_carrier: bool,
     octets: &mut [u8],
 ) -> Got
-    requires connection { S.is_open sockets.old ≡ true }
+    requires connection { (S.state sockets.old).is_open ≡ true }
     requires some { 0 < length octets.old }
     requires budget { budget.old.given ≤ 512 }
     ensures within { GotWithin result (length octets.new) }
     ensures passes { ReadsAfterSending is_carrier served.old.first.octets.items
-        (S.log sockets.old) unsent.old result octets.new served.new.first.octets.items
-        (S.log sockets.new) unsent.new }
+        (S.state sockets.old).log unsent.old result octets.new
+        served.new.first.octets.items (S.state sockets.new).log unsent.new }
     ensures behind { (count : ℕ) → result ≡ Got.Octets count → unsent.new ≡ [] }
-    ensures budget { Gives (S.clock sockets.old) budget.old (count_of result) budget.new
-        (S.clock sockets.new) }
-    ensures reads { HasReadFrom is_carrier (connection_of served.old) result octets.new
-        (connection_of served.new) }
+    ensures reads { ReadsInWindow is_carrier (S.state sockets.old).clock budget.old served.old
+        result octets.new (S.state sockets.new).clock budget.new served.new }
     ensures unread { unsent.new ≢ [] → served.new.patience.unread ≡ served.old.patience.unread }
     ensures none_kept { unsent.old ≡ []
         → served.new.patience.unread ≡ served.old.patience.unread }
     ensures all_sent { unsent.old ≢ [] → unsent.new ≡ [] → result ≢ Got.Fault
         → served.new.patience.unread ≡ 0 }
-    ensures connection { S.is_open sockets.new ≡ true }
-    ensures waiting { S.waiting sockets.new ≡ S.waiting sockets.old }
-    ensures clock { S.clock sockets.old ≤ S.clock sockets.new }
-    ensures found { S.found sockets.new ≡ S.found sockets.old }
-    ensures shown { S.shown sockets.new ≡ S.shown sockets.old }
+    ensures connection { (S.state sockets.new).is_open ≡ true }
+    ensures newcomers { KeepsNewcomers (S.state sockets.old) (S.state sockets.new) }
 {
     match send_kept(sockets, unsent, served) {
         Sent::All => read_sockets(sockets, budget, served, is_carrier, octets),

@@ -10,9 +10,9 @@ ghost use Rattle.dmr_port.specs.Budget.{Gives};
 ghost use Rattle.dmr_port.specs.Causes.{cause_of_closing};
 ghost use Rattle.dmr_port.specs.Newcomers.{IsClaimedAs};
 ghost use Rattle.dmr_port.specs.PortState.{Connection, HasRead, HasWaited, HasWaitedIf, IsFinding};
-ghost use Rattle.dmr_port.specs.PortState.{IsFresh, Passes, PassesThenReads, PortAgrees};
-ghost use Rattle.dmr_port.specs.PortState.{connection_after_write, count_of, empty_port, unread_of};
-ghost use Rattle.dmr_port.specs.PortState.{with_cause};
+ghost use Rattle.dmr_port.specs.PortState.{IsFresh, IsLater, OnlyServes, Passes, PassesThenReads};
+ghost use Rattle.dmr_port.specs.PortState.{PortAgrees, connection_after_write, count_of, empty_port};
+ghost use Rattle.dmr_port.specs.PortState.{unread_of, with_cause};
 ghost use Rattle.dmr_port.specs.Record.{Agrees};
 ghost use Rattle.dmr_port.specs.Settings.{is_carrier};
 ghost use Rattle.dmr_port.specs.Sockets.{taken_by};
@@ -89,7 +89,7 @@ impl<S: Sockets + Drop, N: PortNotes + Drop, W: Witness + Drop> Model for Servin
     ghost use Rattle.std.specs.Prelude.{◌≡◌, ◌≤◌, [], false, option_map};
     ghost use Rattle.std.specs.Option.{is_some};
     ghost use Rattle.arrayvec.specs.ArrayVec.{array_vec_len};
-    ghost use Rattle.dmr_port.specs.Newcomers.{AreKnown};
+    ghost use Rattle.dmr_port.specs.Newcomers.{HasNewcomersOf};
     ghost use Rattle.dmr_port.specs.PortState.{PortState, connection_of, first_if_served};
     ghost use Rattle.dmr_port.specs.Record.{Agrees};
     ghost use Rattle.dmr_port.specs.Settings.{is_carrier};
@@ -100,23 +100,22 @@ impl<S: Sockets + Drop, N: PortNotes + Drop, W: Witness + Drop> Model for Servin
       settings = p.settings;
       connection = option_map connection_of p.served;
       unsent = p.unsent;
-      log = S.log p.sockets;
+      log = (S.state p.sockets).log;
       waiting = array_vec_len p.room.newcomers;
       window = p.budget;
       witness = p.witness;
-      clock = S.clock p.sockets;
+      clock = (S.state p.sockets).clock;
       counted = p.counted;
-      found = S.found p.sockets;
-      shown = S.shown p.sockets;
+      found = (S.state p.sockets).found;
+      shown = (S.state p.sockets).shown;
     } };
 
-    ghost invariant = { λ p. (S.is_open p.sockets ≡ is_some p.served)
-        × (S.waiting p.sockets ≡ array_vec_len p.room.newcomers)
+    ghost invariant = { λ p. ((S.state p.sockets).is_open ≡ is_some p.served)
+        × HasNewcomersOf p.settings p.room (S.state p.sockets)
         × (array_vec_len p.room.newcomers ≤ 8) × (is_some p.served ≡ false → p.unsent ≡ [])
         × (p.budget.given ≤ 512)
         × Agrees (is_carrier p.settings.whose) (first_if_served (option_map connection_of p.served))
-        p.unsent (S.log p.sockets) (W.reported p.witness)
-        × AreKnown p.settings p.room.newcomers.items (S.shown p.sockets) };
+        p.unsent (S.state p.sockets).log (W.reported p.witness) };
 }
 
 impl<S: Sockets + Drop, N: PortNotes + Drop> ServingPort<S, N> {
@@ -129,10 +128,10 @@ impl<S: Sockets + Drop, N: PortNotes + Drop> ServingPort<S, N> {
         notes: N,
         settings: PortSettings,
     ) -> Result<ServingPort<S, N>, (OutOfMemory, S, N)>
-        requires connection { S.is_open sockets ≡ false }
-        requires newcomers { S.waiting sockets ≡ 0 }
-        ensures ok { IfOk result (λ port. port ≡ empty_port settings (S.log sockets)
-            (S.clock sockets) (S.found sockets) (S.shown sockets) (record {})) }
+        requires connection { (S.state sockets).is_open ≡ false }
+        requires newcomers { (S.state sockets).waiting ≡ 0 }
+        ensures ok { IfOk result (λ port. port
+            ≡ empty_port settings (S.state sockets) (record {})) }
         ensures err { IfErr result (λ refused. (refused.1 ≡ sockets) × (refused.2 ≡ notes)) }
     {
         match ServingPort::with_witness(alloc, sockets, notes, settings, NoWitness) {
@@ -153,12 +152,11 @@ impl<S: Sockets + Drop, N: PortNotes + Drop, W: Witness + Drop> ServingPort<S, N
         settings: PortSettings,
         witness: W,
     ) -> Result<ServingPort<S, N, W>, (OutOfMemory, S, N, W)>
-        requires connection { S.is_open sockets ≡ false }
-        requires newcomers { S.waiting sockets ≡ 0 }
+        requires connection { (S.state sockets).is_open ≡ false }
+        requires newcomers { (S.state sockets).waiting ≡ 0 }
         requires record { Agrees (is_carrier settings.whose) None []
-            (S.log sockets) (W.reported witness) }
-        ensures ok { IfOk result (λ port. port ≡ empty_port settings (S.log sockets)
-            (S.clock sockets) (S.found sockets) (S.shown sockets) witness) }
+            (S.state sockets).log (W.reported witness) }
+        ensures ok { IfOk result (λ port. port ≡ empty_port settings (S.state sockets) witness) }
         ensures err { IfErr result (λ refused. (refused.1 ≡ sockets) × (refused.2 ≡ notes)
             × (refused.3 ≡ witness)) }
     {
@@ -203,7 +201,7 @@ impl<S: Sockets + Drop, N: PortNotes + Drop, W: Witness + Drop> ServingPort<S, N
     /// Takes the port apart: returns the sockets, with the connection and the newcomers that they still have, and the
     /// notes. Kept octets and the witness are lost.
     pub fn into_parts(self) -> (S, N)
-        ensures { S.log result.0 ≡ self.log }
+        ensures { (S.state result.0).log ≡ self.log }
     {
         (self.sockets, self.log.into_notes())
     }
@@ -211,8 +209,7 @@ impl<S: Sockets + Drop, N: PortNotes + Drop, W: Witness + Drop> ServingPort<S, N
     /// Writes a note.
     #[inline(never)]
     fn note(&mut self, note: &Note<'_>)
-        ensures port { self.new ≡ record self.old { clock = self.new.clock } }
-        ensures clock { self.old.clock ≤ self.new.clock }
+        ensures { IsLater self.old self.new }
     {
         let now = self.sockets.now();
         self.log.write(now, note);
@@ -221,14 +218,11 @@ impl<S: Sockets + Drop, N: PortNotes + Drop, W: Witness + Drop> ServingPort<S, N
     /// Closes the connection that is served, if there is one. Kept octets that it does not take at once are lost.
     #[inline(never)]
     fn let_go(&mut self)
-        ensures port { self.new
-            ≡ record self.old {
-              connection = None;
-              unsent = [];
-              log = self.new.log;
-              clock = self.new.clock;
-            } }
-        ensures clock { self.old.clock ≤ self.new.clock }
+        ensures { IsLater (record self.old {
+          connection = None;
+          unsent = [];
+          log = self.new.log;
+        }) self.new }
     {
         let Some(served) = self.served.take() else {
             return;
@@ -296,8 +290,7 @@ impl<S: Sockets + Drop, N: PortNotes + Drop, W: Witness + Drop> ServingPort<S, N
 
     /// Notes that connections cannot be accepted, unless that has just been noted.
     fn note_refusal(&mut self, error: &io::Error)
-        ensures port { self.new ≡ record self.old { clock = self.new.clock } }
-        ensures clock { self.old.clock ≤ self.new.clock }
+        ensures { IsLater self.old self.new }
     {
         if !self.refuses {
             self.refuses = true;
@@ -307,8 +300,7 @@ impl<S: Sockets + Drop, N: PortNotes + Drop, W: Witness + Drop> ServingPort<S, N
 
     /// Notes that connections can be accepted again, if they could not.
     fn note_no_refusal(&mut self)
-        ensures port { self.new ≡ record self.old { clock = self.new.clock } }
-        ensures clock { self.old.clock ≤ self.new.clock }
+        ensures { IsLater self.old self.new }
     {
         if self.refuses {
             self.refuses = false;
@@ -318,8 +310,7 @@ impl<S: Sockets + Drop, N: PortNotes + Drop, W: Witness + Drop> ServingPort<S, N
 
     /// Notes that a newcomer came, and which was closed because of it, if one was.
     fn note_newcomer(&mut self, from: SocketAddr, refused: Option<SocketAddr>)
-        ensures port { self.new ≡ record self.old { clock = self.new.clock } }
-        ensures clock { self.old.clock ≤ self.new.clock }
+        ensures { IsLater self.old self.new }
     {
         self.note_no_refusal();
         if let Some(from) = refused {
@@ -334,12 +325,8 @@ impl<S: Sockets + Drop, N: PortNotes + Drop, W: Witness + Drop> ServingPort<S, N
     /// Accepts a connection, if one has come. Returns whether another may have come.
     #[tactic(auto, using(crate::proofs::NewcomersLemmas::known_added))]
     fn accept_one(&mut self) -> bool
-        ensures port { self.new ≡ record self.old {
-          waiting = self.new.waiting;
-          clock = self.new.clock;
-          shown = self.new.shown;
-        } }
-        ensures clock { self.old.clock ≤ self.new.clock }
+        ensures { IsLater (record self.old { waiting = self.new.waiting; shown = self.new.shown })
+            self.new }
     {
         match self.sockets.accept() {
             Accepted::Came(from) => {
@@ -366,12 +353,8 @@ impl<S: Sockets + Drop, N: PortNotes + Drop, W: Witness + Drop> ServingPort<S, N
     /// Accepts the connections that have come, and looks at what the newcomers have sent.
     #[inline(never)]
     fn admit(&mut self)
-        ensures port { self.new ≡ record self.old {
-          waiting = self.new.waiting;
-          clock = self.new.clock;
-          shown = self.new.shown;
-        } }
-        ensures clock { self.old.clock ≤ self.new.clock }
+        ensures { IsLater (record self.old { waiting = self.new.waiting; shown = self.new.shown })
+            self.new }
     {
         let mut more = true;
         for _ in 0..MOST_ACCEPTS {
@@ -409,13 +392,12 @@ impl<S: Sockets + Drop, N: PortNotes + Drop, W: Witness + Drop> ServingPort<S, N
         ensures after { self.old.clock ≤ self.new.counted }
         ensures before { self.new.counted ≤ self.new.clock }
         ensures finding { IsFinding self.old.clock result.0 keeps self.new.counted self.new.found }
-        ensures port { self.new ≡ record self.old {
+        ensures port { IsLater (record self.old {
           waiting = self.new.waiting;
-          clock = self.new.clock;
           counted = self.new.counted;
           found = self.new.found;
           shown = self.new.shown;
-        } }
+        }) self.new }
     {
         let before = self.sockets.now();
         let asked = self.milliseconds_to_wait(before);
@@ -432,8 +414,7 @@ impl<S: Sockets + Drop, N: PortNotes + Drop, W: Witness + Drop> ServingPort<S, N
     /// Notes that the connection yields its place to a claimant, if it was given up for that.
     #[inline(never)]
     fn note_displaced(&mut self, cause: CloseCause, from: SocketAddr, quiet: u32)
-        ensures port { self.new ≡ record self.old { clock = self.new.clock } }
-        ensures clock { self.old.clock ≤ self.new.clock }
+        ensures { IsLater self.old self.new }
     {
         if cause != CloseCause::Displaced {
             return;
@@ -457,11 +438,7 @@ impl<S: Sockets + Drop, N: PortNotes + Drop, W: Witness + Drop> ServingPort<S, N
     fn judge(&mut self, ready: Ready, milliseconds: u32, keeps: bool, is_claimed: bool) -> Waited
         ensures judged { HasWaitedIf self.old.settings.silence milliseconds keeps ready.connection
             is_claimed self.old.connection self.new.connection result }
-        ensures port { self.new ≡ record self.old {
-          connection = self.new.connection;
-          clock = self.new.clock;
-        } }
-        ensures clock { self.old.clock ≤ self.new.clock }
+        ensures port { IsLater (record self.old { connection = self.new.connection }) self.new }
         ensures few { self.new.waiting ≤ 8 }
     {
         let silence = self.settings.silence;
@@ -506,10 +483,7 @@ impl<S: Sockets + Drop, N: PortNotes + Drop, W: Witness + Drop> Wire for Serving
             ≡ option_map (λ (_ : Connection). 0) self.old.connection }
         ensures connection { HasRead (is_carrier self.old.settings.whose) self.old.connection result
             octets.new self.new.connection }
-        ensures settings { self.new.settings ≡ self.old.settings }
-        ensures waiting { self.new.waiting ≡ self.old.waiting }
-        ensures clock { self.old.clock ≤ self.new.clock }
-        ensures counted { self.new.counted ≡ self.old.counted }
+        ensures rest { OnlyServes self.old self.new }
     {
         let Some(served) = &mut self.served else {
             self.witness.see(RecordEntry::Read(Got::Fault), octets);
@@ -541,10 +515,7 @@ impl<S: Sockets + Drop, N: PortNotes + Drop, W: Witness + Drop> Wire for Serving
         ensures connection { self.new.connection
             ≡ option_map (connection_after_write result) self.old.connection }
         ensures window { self.new.window ≡ self.old.window }
-        ensures settings { self.new.settings ≡ self.old.settings }
-        ensures waiting { self.new.waiting ≡ self.old.waiting }
-        ensures clock { self.old.clock ≤ self.new.clock }
-        ensures counted { self.new.counted ≡ self.old.counted }
+        ensures rest { OnlyServes self.old self.new }
     {
         let Some(served) = &mut self.served else {
             self.witness.see(RecordEntry::Write(Put::Fault), octets);
@@ -601,16 +572,6 @@ impl<S: Sockets + Drop, N: PortNotes + Drop, W: Witness + Drop> Port for Serving
             (W.reported self.new.witness) }
         ensures judged { HasWaited self.old self.new result }
         ensures few { self.new.waiting ≤ 8 }
-        ensures port { self.new
-            ≡ record self.old {
-              connection = self.new.connection;
-              waiting = self.new.waiting;
-              witness = self.new.witness;
-              clock = self.new.clock;
-              counted = self.new.counted;
-              found = self.new.found;
-              shown = self.new.shown;
-            } }
     {
         let keeps = !self.unsent.is_empty();
         let (ready, milliseconds) = self.wait_and_admit(keeps);
@@ -636,8 +597,7 @@ impl<S: Sockets + Drop, N: PortNotes + Drop, W: Witness + Drop> Port for Serving
 
     /// Wakes all ports of the site, so that their workers ask whether the term is over.
     fn term_over(&mut self)
-        ensures port { self.new ≡ record self.old { clock = self.new.clock } }
-        ensures clock { self.old.clock ≤ self.new.clock }
+        ensures { IsLater self.old self.new }
     {
         self.sockets.wake_all();
     }

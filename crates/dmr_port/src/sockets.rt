@@ -1,12 +1,12 @@
 //! What a port needs of the system: a listening socket, the connection that is served, the newcomers that wait, and a
 //! poll over all of them. No code here calls the system.
 
-ghost use Rattle.std.specs.Prelude.{◌≡◌, ℕ, ◌+◌, ◌<◌, ◌≤◌, Bool, true, false, List, [], ◌∷◌, Option};
-ghost use Rattle.std.specs.Prelude.{length, IfSome, OnOk, OnErr};
-ghost use Rattle.dmr_wire.specs.Answers.{Answer, GotWithin, Opened, PutWithin, Reports, of_read};
-ghost use Rattle.dmr_wire.specs.Answers.{of_write};
-ghost use Rattle.dmr_port.specs.Sockets.{Found, PeekedWithin, found_after, shown_after_accept};
-ghost use Rattle.dmr_port.specs.Sockets.{shown_after_peek, shown_without, waiting_after};
+ghost use Rattle.std.specs.Prelude.{◌≡◌, ◌+◌, ◌<◌, ◌≤◌, true, false, [], ◌∷◌, length, IfSome, OnOk};
+ghost use Rattle.std.specs.Prelude.{OnErr};
+ghost use Rattle.dmr_wire.specs.Answers.{GotWithin, Opened, PutWithin, Reports, of_read, of_write};
+ghost use Rattle.dmr_port.specs.Sockets.{KeepsConnection, KeepsNewcomers, PeekedWithin, SocketState};
+ghost use Rattle.dmr_port.specs.Sockets.{found_after, shown_after_accept, shown_after_peek};
+ghost use Rattle.dmr_port.specs.Sockets.{shown_without, waiting_after};
 
 use dmr_wire::{Got, Put};
 use std::io;
@@ -52,147 +52,115 @@ pub struct Ready {
 ///
 /// They are one object, so that its answers have one order. No call except [`Sockets::wait`] waits.
 pub trait Sockets {
-    /// Whether there is a connection that is served.
-    ghost is_open: { Self → Bool };
-
-    /// The number of newcomers.
-    ghost waiting: { Self → ℕ };
-
-    /// The log, if it is known: each connection that was taken, and the answers to reads and writes, oldest first. It
-    /// may end at any call. Sockets of the system know none.
-    ghost log: { Self → Option (List Answer) };
-
-    /// The time of a clock, in milliseconds. Any call may let time pass.
-    ghost clock: { Self → ℕ };
-
-    /// What the latest wait found, and the time at its end, if that is known. Sockets of the system do not know it.
-    ghost found: { Self → Option Found };
-
-    /// The octets that the latest look at each newcomer found, oldest newcomer first, if they are known. Sockets of the
-    /// system do not know them.
-    ghost shown: { Self → Option (List (List ℕ)) };
+    /// What contracts see of the sockets: whether there is a connection that is served, the number of newcomers, and
+    /// the time of a clock, in milliseconds. Any call may let time pass. Some sockets know more, those of the system do
+    /// not:
+    ///
+    /// - `log`: each connection that was taken, and the answers to reads and writes, oldest first. It may end at any
+    ///   call.
+    /// - `found`: what the latest wait found, whether it was for sending (`sends`), and the time at its end.
+    /// - `shown`: the octets that the latest look at each newcomer found, oldest newcomer first.
+    ghost state: { Self → SocketState };
 
     /// Accepts a connection, if one has come, as the newest newcomer. There must be fewer than nine.
     fn accept(&mut self) -> Accepted
-        requires { waiting self.old < 9 }
-        ensures waiting { waiting self.new ≡ waiting_after (waiting self.old) result }
-        ensures connection { is_open self.new ≡ is_open self.old }
-        ensures log { log self.new ≡ log self.old }
-        ensures clock { clock self.old ≤ clock self.new }
-        ensures found { found self.new ≡ found self.old }
-        ensures shown { shown self.new ≡ shown_after_accept result (shown self.old) };
+        requires { (state self.old).waiting < 9 }
+        ensures waiting { (state self.new).waiting ≡ waiting_after (state self.old).waiting result }
+        ensures shown { (state self.new).shown ≡ shown_after_accept result (state self.old).shown }
+        ensures connection { KeepsConnection (state self.old) (state self.new) };
 
     /// Looks at the first octets that a newcomer has sent, at most as many as the slice holds, and leaves them to be
     /// read. The rest of the slice then holds anything. There must be a newcomer at the place, and room in the slice.
     fn peek(&mut self, place: usize, octets: &mut [u8]) -> Peeked
-        requires place { place < waiting self.old }
+        requires place { place < (state self.old).waiting }
         requires some { 0 < length octets.old }
         ensures within { PeekedWithin result (length octets.new) }
-        ensures waiting { waiting self.new ≡ waiting self.old }
-        ensures connection { is_open self.new ≡ is_open self.old }
-        ensures log { log self.new ≡ log self.old }
-        ensures clock { clock self.old ≤ clock self.new }
-        ensures found { found self.new ≡ found self.old }
-        ensures shown { shown self.new
-            ≡ shown_after_peek place result octets.new (shown self.old) };
+        ensures waiting { (state self.new).waiting ≡ (state self.old).waiting }
+        ensures shown { (state self.new).shown
+            ≡ shown_after_peek place result octets.new (state self.old).shown }
+        ensures connection { KeepsConnection (state self.old) (state self.new) };
 
     /// Closes a newcomer and forgets it. Those after it move one place to the front. There must be a newcomer at the
     /// place.
     fn refuse(&mut self, place: usize)
-        requires { place < waiting self.old }
-        ensures waiting { waiting self.new + 1 ≡ waiting self.old }
-        ensures connection { is_open self.new ≡ is_open self.old }
-        ensures log { log self.new ≡ log self.old }
-        ensures clock { clock self.old ≤ clock self.new }
-        ensures found { found self.new ≡ found self.old }
-        ensures shown { shown self.new ≡ shown_without place (shown self.old) };
+        requires { place < (state self.old).waiting }
+        ensures waiting { (state self.new).waiting + 1 ≡ (state self.old).waiting }
+        ensures shown { (state self.new).shown ≡ shown_without place (state self.old).shown }
+        ensures connection { KeepsConnection (state self.old) (state self.new) };
 
     /// Makes a newcomer the connection that is served. Those after it move one place to the front. On an error the
     /// newcomer cannot be polled; it is then closed, and there is no connection. There must be a newcomer at the place,
     /// and no connection.
     fn take(&mut self, place: usize) -> io::Result<()>
-        requires place { place < waiting self.old }
-        requires connection { is_open self.old ≡ false }
-        ensures waiting { waiting self.new + 1 ≡ waiting self.old }
-        ensures ok { OnOk result (is_open self.new ≡ true) }
-        ensures err { OnErr result (is_open self.new ≡ false) }
-        ensures opened { OnOk result (Reports (log self.old) (Opened ∷ []) (log self.new)) }
-        ensures log { OnErr result (log self.new ≡ log self.old) }
-        ensures clock { clock self.old ≤ clock self.new }
-        ensures found { found self.new ≡ found self.old }
-        ensures shown { shown self.new ≡ shown_without place (shown self.old) };
+        requires place { place < (state self.old).waiting }
+        requires connection { (state self.old).is_open ≡ false }
+        ensures waiting { (state self.new).waiting + 1 ≡ (state self.old).waiting }
+        ensures shown { (state self.new).shown ≡ shown_without place (state self.old).shown }
+        ensures ok { OnOk result ((state self.new).is_open ≡ true) }
+        ensures err { OnErr result ((state self.new).is_open ≡ false) }
+        ensures opened { OnOk result
+            (Reports (state self.old).log (Opened ∷ []) (state self.new).log) }
+        ensures log { OnErr result ((state self.new).log ≡ (state self.old).log) }
+        ensures clock { (state self.old).clock ≤ (state self.new).clock }
+        ensures found { (state self.new).found ≡ (state self.old).found };
 
     /// Reads octets of the connection, at most as many as the slice holds, to its front. The rest of the slice then
     /// holds anything. There must be a connection, and room in the slice.
     fn read(&mut self, octets: &mut [u8]) -> Got
-        requires connection { is_open self.old ≡ true }
+        requires connection { (state self.old).is_open ≡ true }
         requires some { 0 < length octets.old }
         ensures within { GotWithin result (length octets.new) }
-        ensures waiting { waiting self.new ≡ waiting self.old }
-        ensures connection { is_open self.new ≡ true }
-        ensures log { Reports (log self.old) (of_read result octets.new ∷ []) (log self.new) }
-        ensures clock { clock self.old ≤ clock self.new }
-        ensures found { found self.new ≡ found self.old }
-        ensures shown { shown self.new ≡ shown self.old };
+        ensures connection { (state self.new).is_open ≡ true }
+        ensures log { Reports (state self.old).log (of_read result octets.new ∷ [])
+            (state self.new).log }
+        ensures newcomers { KeepsNewcomers (state self.old) (state self.new) };
 
     /// Writes octets to the connection, from the front of the slice on, as many as it takes at once. There must be a
     /// connection, and an octet in the slice.
     fn write(&mut self, octets: &[u8]) -> Put
-        requires connection { is_open self.old ≡ true }
+        requires connection { (state self.old).is_open ≡ true }
         requires some { 0 < length octets.now }
         ensures within { PutWithin result (length octets.now) }
-        ensures waiting { waiting self.new ≡ waiting self.old }
-        ensures connection { is_open self.new ≡ true }
-        ensures log { Reports (log self.old) (of_write result octets.now ∷ []) (log self.new) }
-        ensures clock { clock self.old ≤ clock self.new }
-        ensures found { found self.new ≡ found self.old }
-        ensures shown { shown self.new ≡ shown self.old };
+        ensures connection { (state self.new).is_open ≡ true }
+        ensures log { Reports (state self.old).log (of_write result octets.now ∷ [])
+            (state self.new).log }
+        ensures newcomers { KeepsNewcomers (state self.old) (state self.new) };
 
     /// Closes the connection, which there must be. Ends the output first, and reads the octets that came and were not
     /// read. A close with unread octets would reset the connection, and the other side might then lose the last octets
     /// written to it.
     fn close(&mut self)
-        requires { is_open self.old ≡ true }
-        ensures waiting { waiting self.new ≡ waiting self.old }
-        ensures connection { is_open self.new ≡ false }
-        ensures log { log self.new ≡ log self.old }
-        ensures clock { clock self.old ≤ clock self.new }
-        ensures found { found self.new ≡ found self.old }
-        ensures shown { shown self.new ≡ shown self.old };
+        requires { (state self.old).is_open ≡ true }
+        ensures connection { (state self.new).is_open ≡ false }
+        ensures log { (state self.new).log ≡ (state self.old).log }
+        ensures newcomers { KeepsNewcomers (state self.old) (state self.new) };
 
     /// Returns the time of the clock, in milliseconds. It does not go back.
     fn now(&mut self) -> u64
-        ensures waiting { waiting self.new ≡ waiting self.old }
-        ensures connection { is_open self.new ≡ is_open self.old }
-        ensures log { log self.new ≡ log self.old }
-        ensures time { result ≡ clock self.new }
-        ensures clock { clock self.old ≤ clock self.new }
-        ensures found { found self.new ≡ found self.old }
-        ensures shown { shown self.new ≡ shown self.old };
+        ensures time { result ≡ (state self.new).clock }
+        ensures connection { KeepsConnection (state self.old) (state self.new) }
+        ensures newcomers { KeepsNewcomers (state self.old) (state self.new) };
 
     /// Waits until something is ready, at most this many milliseconds. If `sends`, the connection is ready when it can
     /// be written, and otherwise when it can be read. If the system cannot wait, this returns at once with nothing
     /// ready.
     fn wait(&mut self, milliseconds: u64, sends: bool) -> Ready
-        ensures waiting { waiting self.new ≡ waiting self.old }
-        ensures connection { is_open self.new ≡ is_open self.old }
-        ensures log { log self.new ≡ log self.old }
-        ensures clock { clock self.old ≤ clock self.new }
-        ensures found { found self.new
-            ≡ found_after result sends (clock self.new) (found self.old) }
-        ensures shown { shown self.new ≡ shown self.old };
+        ensures waiting { (state self.new).waiting ≡ (state self.old).waiting }
+        ensures shown { (state self.new).shown ≡ (state self.old).shown }
+        ensures connection { (state self.new).is_open ≡ (state self.old).is_open }
+        ensures log { (state self.new).log ≡ (state self.old).log }
+        ensures clock { (state self.old).clock ≤ (state self.new).clock }
+        ensures found { (state self.new).found
+            ≡ found_after result sends (state self.new).clock (state self.old).found };
 
     /// Ends the wait that is under way at any port of the site, or else its next one, with nothing ready, if the
     /// sockets can do that. By default it does nothing.
     fn wake_all(&mut self)
-        ensures waiting { Self.waiting self.new ≡ Self.waiting self.old }
-        ensures connection { Self.is_open self.new ≡ Self.is_open self.old }
-        ensures log { Self.log self.new ≡ Self.log self.old }
-        ensures clock { Self.clock self.old ≤ Self.clock self.new }
-        ensures found { Self.found self.new ≡ Self.found self.old }
-        ensures shown { Self.shown self.new ≡ Self.shown self.old }
+        ensures connection { KeepsConnection (Self.state self.old) (Self.state self.new) }
+        ensures newcomers { KeepsNewcomers (Self.state self.old) (Self.state self.new) }
     {}
 
     /// Octets are known of all newcomers, or of none.
-    ghost shows_all: { (s : Self) → IfSome (shown s) (λ octets. length octets ≡ waiting s) };
+    ghost shows_all: { (s : Self) → IfSome (state s).shown
+        (λ octets. length octets ≡ (state s).waiting) };
 }

@@ -3,7 +3,7 @@
 ghost use Rattle.std.specs.Prelude.{◌≡◌, ◌≢◌, ◌<◌, ◌≤◌, ◌+◌, ◌-◌, [], ◌++◌, List, ℕ, true, length};
 ghost use Rattle.std.specs.Prelude.{take, drop, min, IfOk, nat_eq};
 ghost use Rattle.dmr_wire.specs.Answers.{PutWithin};
-ghost use Rattle.dmr_port.specs.Sockets.{taken_by};
+ghost use Rattle.dmr_port.specs.Sockets.{KeepsNewcomers, taken_by};
 ghost use Rattle.dmr_port.specs.Unsent.{PassesOctets, count_put};
 
 use crate::sockets::Sockets;
@@ -82,16 +82,13 @@ impl Unsent {
     /// kept octets are unchanged.
     #[tactic(auto, using(crate::proofs::UnsentLemmas::passes_at_once, crate::proofs::UnsentLemmas::passes_kept))]
     pub fn write<S: Sockets>(&mut self, sockets: &mut S, octets: &[u8]) -> Put
-        requires connection { S.is_open sockets.old ≡ true }
+        requires connection { (S.state sockets.old).is_open ≡ true }
         requires some { 0 < length octets.now }
         ensures within { PutWithin result (length octets.now) }
-        ensures passes { PassesOctets (S.log sockets.old) self.old (taken_by result octets.now)
-            (S.log sockets.new) self.new }
-        ensures connection { S.is_open sockets.new ≡ true }
-        ensures waiting { S.waiting sockets.new ≡ S.waiting sockets.old }
-        ensures clock { S.clock sockets.old ≤ S.clock sockets.new }
-        ensures found { S.found sockets.new ≡ S.found sockets.old }
-        ensures shown { S.shown sockets.new ≡ S.shown sockets.old }
+        ensures passes { PassesOctets (S.state sockets.old).log self.old
+            (taken_by result octets.now) (S.state sockets.new).log self.new }
+        ensures connection { (S.state sockets.new).is_open ≡ true }
+        ensures newcomers { KeepsNewcomers (S.state sockets.old) (S.state sockets.new) }
     {
         if self.is_empty() {
             match sockets.write(octets) {
@@ -106,15 +103,13 @@ impl Unsent {
     #[tactic(auto, using(crate::proofs::UnsentLemmas::passes_nothing, crate::proofs::UnsentLemmas::passes_on))]
     #[inline(never)]
     pub fn send_all<S: Sockets>(&mut self, sockets: &mut S) -> Sent
-        requires { S.is_open sockets.old ≡ true }
-        ensures passes { PassesOctets (S.log sockets.old) self.old [] (S.log sockets.new) self.new }
+        requires { (S.state sockets.old).is_open ≡ true }
+        ensures passes { PassesOctets (S.state sockets.old).log self.old []
+            (S.state sockets.new).log self.new }
         ensures all { result ≡ Sent.All → self.new ≡ [] }
         ensures part { result ≡ Sent.Part → self.new ≢ [] }
-        ensures connection { S.is_open sockets.new ≡ true }
-        ensures waiting { S.waiting sockets.new ≡ S.waiting sockets.old }
-        ensures clock { S.clock sockets.old ≤ S.clock sockets.new }
-        ensures found { S.found sockets.new ≡ S.found sockets.old }
-        ensures shown { S.shown sockets.new ≡ S.shown sockets.old }
+        ensures connection { (S.state sockets.new).is_open ≡ true }
+        ensures newcomers { KeepsNewcomers (S.state sockets.old) (S.state sockets.new) }
     {
         while !self.is_empty() {
             match self.send_once(sockets) {
@@ -134,15 +129,13 @@ impl Unsent {
     /// answer it took none.
     #[tactic(auto, using(crate::proofs::UnsentLemmas::passes_front, crate::proofs::UnsentLemmas::passes_none))]
     fn send_once<S: Sockets>(&mut self, sockets: &mut S) -> Put
-        requires connection { S.is_open sockets.old ≡ true }
+        requires connection { (S.state sockets.old).is_open ≡ true }
         requires some { self.old ≢ [] }
-        ensures passes { PassesOctets (S.log sockets.old) self.old [] (S.log sockets.new) self.new }
+        ensures passes { PassesOctets (S.state sockets.old).log self.old []
+            (S.state sockets.new).log self.new }
         ensures left { length self.new + count_put result ≡ length self.old }
-        ensures connection { S.is_open sockets.new ≡ true }
-        ensures waiting { S.waiting sockets.new ≡ S.waiting sockets.old }
-        ensures clock { S.clock sockets.old ≤ S.clock sockets.new }
-        ensures found { S.found sockets.new ≡ S.found sockets.old }
-        ensures shown { S.shown sockets.new ≡ S.shown sockets.old }
+        ensures connection { (S.state sockets.new).is_open ≡ true }
+        ensures newcomers { KeepsNewcomers (S.state sockets.old) (S.state sockets.new) }
     {
         let put = sockets.write(self.oldest());
         if let Put::Octets(count) = put {

@@ -1,5 +1,5 @@
 -- What serving opens has a station for each carrier of the plan, by number, and its first term can begin.
-use Rattle.std.proofs.Common.{◌≡◌, ℕ, zero, suc, ◌+◌, List, [], ◌∷◌, ◌++◌, Bool, true, false, Option, None, Some, IsSomeAnd, map, refl, sym, ◌∙◌, ap, subst, arith, add-zero, if◌then◌else◌}
+use Rattle.std.proofs.Common.{◌≡◌, ℕ, zero, suc, ◌+◌, List, [], ◌∷◌, ◌++◌, Bool, true, false, Option, None, Some, IsSomeAnd, Result, Ok, Err, OnOk, map, refl, sym, ◌∙◌, ap, subst, arith, add-zero, if◌then◌else◌}
 use Rattle.dmr_plan.specs.declared.carriers.CarrierRow.{CarrierRow}
 use Rattle.dmr_plan.specs.declared.settings.Settings.{Settings}
 use Rattle.dmr_plan.specs.Carriers.{row_with}
@@ -57,6 +57,14 @@ one_station plan numbers old new number station has is same are =
     let P : Bool → Type 0 = λ has. AreNewStations plan (if has then numbers ++ number ∷ [] else numbers) new in
     let Q : List (Station (PortState NoWitness) OpenGate) → Type 0 = λ stations. AreNewStations plan (numbers ++ number ∷ []) stations in
     subst P (sym has) (subst Q (sym same) (stations_more plan numbers old number station are is))
+
+-- a list with the station at its end, if it could be appended
+pub station_then : {T E : Type 0} (plan : Settings) (old new : List (Station (PortState NoWitness) OpenGate)) (number : ℕ) (row : CarrierRow) (station : Station (PortState NoWitness) OpenGate) (result : Result T E) → Some row ≡ row_with plan.carriers number → true ≡ has_carrier plan number → IsNewStation plan number row.lpcn station → OnOk result (new ≡ old ++ station ∷ [])
+    → OnOk result ((numbers : List ℕ) → AreNewStations plan numbers old → AreNewStations plan (with_number plan numbers number) new)
+station_then plan old new number row station (Ok done) found has is same =
+    let P : Option CarrierRow → Type 0 = λ it. IsSomeAnd it (λ (r : CarrierRow). IsNewStation plan number r.lpcn station) in
+    λ numbers are. one_station plan numbers old new number station (sym has) (subst P found is) same are
+station_then plan old new number row station (Err fault) found has is same = tt
 
 carrier_of_new : (plan : Settings) (number : ℕ) (found : Option CarrierRow) (station : Station (PortState NoWitness) OpenGate) → IsSomeAnd found (λ (row : CarrierRow). IsNewStation plan number row.lpcn station) → carrier_of_peer station.link.who ≡ Some number
 carrier_of_new plan number None station is = absurd is

@@ -29,9 +29,6 @@ use Rattle.dmr_trunk.specs.Served.{HasServed, HaveServed, HaveStoppedServing, Is
 use Rattle.dmr_trunk.specs.Stored.{AreNewBooks, carried_if_wanted, idle_store}
 use Rattle.dmr_trunk.proofs.TermsFit.{stopped_may_fail}
 
-not_ok : {A E : Type 0} (fault : E) (C : Type 0) → IsOk {T = A} {E = E} (Err fault) → C
-not_ok fault C ok = absurd (false≢true ok)
-
 -- ---- the terms
 
 some_next : {S E : Type 0} (A : Start → Type 0) (begin : S → Start) (result : Result S E) → IfOk result (λ (next : S). A (begin next)) → IfOk result (λ (left : S). (next : Start) × A next)
@@ -89,7 +86,7 @@ module _ {R S T K : Type 0} (kept : K → Option Kept) (refuses : K → TimedRec
   remains : (result : Result S Stopped) (left : Result T Stopped) (last : Keeping K) → MatchResult result (λ (service : S). IsOk left) (λ (stopped : Stopped). left ≡ Err stopped) → IsServed R kept refuses wants plan radios store terms result last
       → IsServed R kept refuses wants plan radios store terms left last
   remains (Ok service) (Ok done) last same is = record { first = is.first; opened = is.opened; run = is.run; fault = tt; memory = tt; may_fail = tt }
-  remains (Ok service) (Err fault) last same is = not_ok fault (IsServed R kept refuses wants plan radios store terms (Err fault) last) same
+  remains (Ok service) (Err fault) last same is = absurd (false≢true same)
   remains (Err stopped) left last same is =
       let P : Result T Stopped → Type 0 = λ l. IsServed R kept refuses wants plan radios store terms l last in
       subst P (sym same) (record { first = is.first; opened = is.opened; run = tt; fault = is.fault; memory = is.memory; may_fail = is.may_fail })
@@ -102,12 +99,12 @@ module _ {R S T K : Type 0} (kept : K → Option Kept) (refuses : K → TimedRec
       subst P (sym store_is) (remains result left last same is)
 
 -- the store was asked first which radios were registered before
-pub served_again : {R K E : Type 0} (reads : K → List ℕ → K → Type 0) (cannot_read : K → KeepFault → K → Type 0) (kept : K → Option Kept) (refuses : K → TimedRecords → KeepFault → Type 0) (wants : K → Bool) (plan : Settings) (store asked : K) (terms : ℕ) (radios slice : List ℕ) (result : Result (Remains K) E) → slice ≡ radios → AreRestored reads cannot_read store radios asked
+pub served_again : {K E : Type 0} (R : Type 0) (reads : K → List ℕ → K → Type 0) (cannot_read : K → KeepFault → K → Type 0) (kept : K → Option Kept) (refuses : K → TimedRecords → KeepFault → Type 0) (wants : K → Bool) (plan : Settings) (store asked : K) (terms : ℕ) (radios slice : List ℕ) (result : Result (Remains K) E) → slice ≡ radios → AreRestored reads cannot_read store radios asked
     → IfOk result (λ (left : Remains K). IsServed R kept refuses wants plan slice asked terms left.result left.keeping) → IfOk result (λ (left : Remains K). IsServedAgain R reads cannot_read kept refuses wants plan store terms left.result left.keeping)
-served_again {R = R} reads cannot_read kept refuses wants plan store asked terms radios slice (Ok left) same read served =
+served_again R reads cannot_read kept refuses wants plan store asked terms radios slice (Ok left) same read served =
     let P : List ℕ → Type 0 = λ these. IsServed R kept refuses wants plan these asked terms left.result left.keeping in
     record { radios = radios; asked = asked; read = read; served = subst P same served }
-served_again reads cannot_read kept refuses wants plan store asked terms radios slice (Err fault) same read served = tt
+served_again R reads cannot_read kept refuses wants plan store asked terms radios slice (Err fault) same read served = tt
 
 -- ---- the faults of serving
 
@@ -118,7 +115,7 @@ opening_may_fail OutOfMemory = tt
 
 pub left_may_fail : {S T : Type 0} (left : Result S Stopped) (result : Result T ServeFault) → MatchResult left (λ (done : S). IsOk result) (λ (stopped : Stopped). result ≡ Err (Term stopped.fault)) → IfErr left (λ (stopped : Stopped). MayFail stopped.fault) → IfErr result IsServeFault
 left_may_fail (Ok done) (Ok nothing) same may = tt
-left_may_fail (Ok done) (Err fault) same may = not_ok fault (IsServeFault fault) same
+left_may_fail (Ok done) (Err fault) same may = absurd (false≢true same)
 left_may_fail {T = T} (Err stopped) result same may =
     let P : Result T ServeFault → Type 0 = λ r. IfErr r IsServeFault in
     subst P (sym same) may

@@ -25,7 +25,7 @@ use Rattle.dmr_trunk.specs.Faults.{IsServeFault, MayFail, fault_of_opening}
 use Rattle.dmr_trunk.specs.Opened.{IsFirstService, ProgramService, start_of}
 use Rattle.dmr_trunk.specs.declared.serve.Remains.{Remains}
 use Rattle.dmr_trunk.specs.Restart.{AreRestored}
-use Rattle.dmr_trunk.specs.Served.{HasServed, HaveServed, HaveStoppedServing, IsServed, IsServedAgain, terms_asked}
+use Rattle.dmr_trunk.specs.Served.{HasServed, HaveServed, HaveStoppedServing, IsSiteServed, IsServedAgain, terms_asked}
 use Rattle.dmr_trunk.specs.Stored.{AreNewBooks, carried_if_wanted, idle_store}
 use Rattle.dmr_trunk.proofs.TermsFit.{stopped_may_fail}
 
@@ -50,7 +50,7 @@ carried_by {R = R} books = option_map (λ (maker : RecordMaker R). maker.recorde
 module _ {R O K : Type 0} (kept : K → Option Kept) (refuses : K → TimedRecords → KeepFault → Type 0) (wants : K → Bool) (plan : Settings) (radios : List ℕ) (store : K) (terms : ℕ) (first : ProgramService R) (opened : IsFirstService plan radios first) (fits : Fits (start_of first)) where
   -- the terms began with what was opened for the plan
   plan_served : (ran : Ran (ProgramService R) O K) → HasServed (begin_at first.site.plan.term_entries) (λ (observer : O). None) kept refuses first None (carried_if_wanted (wants store) (restored plan radios)) (idle_store store) [] terms ran
-      → IsServed R kept refuses wants plan radios store terms ran.result ran.keeping
+      → IsSiteServed R kept refuses wants plan radios store terms ran.result ran.keeping
   plan_served ran served =
       let carried = carried_if_wanted (wants store) (restored plan radios) in
       let A : Start → Type 0 = λ next. HaveServed kept refuses (start_of first) (terms_asked terms) next None None carried (idle_store store) [] ran.keeping in
@@ -64,7 +64,7 @@ module _ {R O K : Type 0} (kept : K → Option Kept) (refuses : K → TimedRecor
       }
 
   with_books : (books : Books K R) (ran : Ran (ProgramService R) O K) → AreNewBooks wants first.site.facts.registered store books → HasServed (begin_at first.site.plan.term_entries) (λ (observer : O). None) kept refuses first None (carried_by books) books.keeping books.waiting.outbox terms ran
-      → IsServed R kept refuses wants plan radios store terms ran.result ran.keeping
+      → IsSiteServed R kept refuses wants plan radios store terms ran.result ran.keeping
   with_books books ran new served =
       let same : first.site.facts.registered ≡ restored plan radios = ap (λ (site : SiteState). site.facts.registered) opened.site in
       let P : Option Carry → Type 0 = λ carried. HasServed (begin_at first.site.plan.term_entries) (λ (observer : O). None) kept refuses first None carried books.keeping books.waiting.outbox terms ran in
@@ -75,7 +75,7 @@ module _ {R O K : Type 0} (kept : K → Option Kept) (refuses : K → TimedRecor
   -- the same, if all was opened
   pub served_if_opened : {A E F : Type 0} (books : A → Books K R) (rest : Result A E) (result : Result (Ran (ProgramService R) O K) F) → IfOk rest (λ (r : A). AreNewBooks wants first.site.facts.registered store (books r))
       → IfOk result (λ (ran : Ran (ProgramService R) O K). IsOkAnd rest (λ (r : A). HasServed (begin_at first.site.plan.term_entries) (λ (observer : O). None) kept refuses first None (carried_by (books r)) (books r).keeping (books r).waiting.outbox terms ran))
-      → IfOk result (λ (ran : Ran (ProgramService R) O K). IsServed R kept refuses wants plan radios store terms ran.result ran.keeping)
+      → IfOk result (λ (ran : Ran (ProgramService R) O K). IsSiteServed R kept refuses wants plan radios store terms ran.result ran.keeping)
   served_if_opened books (Ok r) (Ok ran) new served = with_books (books r) ran new served
   served_if_opened books (Err fault) (Ok ran) new served = absurd served
   served_if_opened books rest (Err fault) new served = tt
@@ -83,26 +83,26 @@ module _ {R O K : Type 0} (kept : K → Option Kept) (refuses : K → TimedRecor
 -- ---- what remains
 
 module _ {R S T K : Type 0} (kept : K → Option Kept) (refuses : K → TimedRecords → KeepFault → Type 0) (wants : K → Bool) (plan : Settings) (radios : List ℕ) (store : K) (terms : ℕ) where
-  remains : (result : Result S Stopped) (left : Result T Stopped) (last : Keeping K) → MatchResult result (λ (service : S). IsOk left) (λ (stopped : Stopped). left ≡ Err stopped) → IsServed R kept refuses wants plan radios store terms result last
-      → IsServed R kept refuses wants plan radios store terms left last
+  remains : (result : Result S Stopped) (left : Result T Stopped) (last : Keeping K) → MatchResult result (λ (service : S). IsOk left) (λ (stopped : Stopped). left ≡ Err stopped) → IsSiteServed R kept refuses wants plan radios store terms result last
+      → IsSiteServed R kept refuses wants plan radios store terms left last
   remains (Ok service) (Ok done) last same is = record { first = is.first; opened = is.opened; run = is.run; fault = tt; memory = tt; may_fail = tt }
   remains (Ok service) (Err fault) last same is = absurd (false≢true same)
   remains (Err stopped) left last same is =
-      let P : Result T Stopped → Type 0 = λ l. IsServed R kept refuses wants plan radios store terms l last in
+      let P : Result T Stopped → Type 0 = λ l. IsSiteServed R kept refuses wants plan radios store terms l last in
       subst P (sym same) (record { first = is.first; opened = is.opened; run = tt; fault = is.fault; memory = is.memory; may_fail = is.may_fail })
 
   -- the service was dropped, and the store is kept
-  pub remains_of : (result : Result S Stopped) (left : Result T Stopped) (last kept_then : Keeping K) → MatchResult result (λ (service : S). IsOk left) (λ (stopped : Stopped). left ≡ Err stopped) → kept_then ≡ last → IsServed R kept refuses wants plan radios store terms result last
-      → IsServed R kept refuses wants plan radios store terms left kept_then
+  pub remains_of : (result : Result S Stopped) (left : Result T Stopped) (last kept_then : Keeping K) → MatchResult result (λ (service : S). IsOk left) (λ (stopped : Stopped). left ≡ Err stopped) → kept_then ≡ last → IsSiteServed R kept refuses wants plan radios store terms result last
+      → IsSiteServed R kept refuses wants plan radios store terms left kept_then
   remains_of result left last kept_then same store_is is =
-      let P : Keeping K → Type 0 = λ keeping. IsServed R kept refuses wants plan radios store terms left keeping in
+      let P : Keeping K → Type 0 = λ keeping. IsSiteServed R kept refuses wants plan radios store terms left keeping in
       subst P (sym store_is) (remains result left last same is)
 
 -- the store was asked first which radios were registered before
 pub served_again : {K E : Type 0} (R : Type 0) (reads : K → List ℕ → K → Type 0) (cannot_read : K → KeepFault → K → Type 0) (kept : K → Option Kept) (refuses : K → TimedRecords → KeepFault → Type 0) (wants : K → Bool) (plan : Settings) (store asked : K) (terms : ℕ) (radios slice : List ℕ) (result : Result (Remains K) E) → slice ≡ radios → AreRestored reads cannot_read store radios asked
-    → IfOk result (λ (left : Remains K). IsServed R kept refuses wants plan slice asked terms left.result left.keeping) → IfOk result (λ (left : Remains K). IsServedAgain R reads cannot_read kept refuses wants plan store terms left.result left.keeping)
+    → IfOk result (λ (left : Remains K). IsSiteServed R kept refuses wants plan slice asked terms left.result left.keeping) → IfOk result (λ (left : Remains K). IsServedAgain R reads cannot_read kept refuses wants plan store terms left.result left.keeping)
 served_again R reads cannot_read kept refuses wants plan store asked terms radios slice (Ok left) same read served =
-    let P : List ℕ → Type 0 = λ these. IsServed R kept refuses wants plan these asked terms left.result left.keeping in
+    let P : List ℕ → Type 0 = λ these. IsSiteServed R kept refuses wants plan these asked terms left.result left.keeping in
     record { radios = radios; asked = asked; read = read; served = subst P same served }
 served_again R reads cannot_read kept refuses wants plan store asked terms radios slice (Err fault) same read served = tt
 

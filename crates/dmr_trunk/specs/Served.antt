@@ -67,7 +67,7 @@ pub record HasServed {S O K : Type 0} (begin : S → Start) (seen : O → Option
 -- be handed yet. The terms began with what was opened for the plan (`IsFirstService`). As many as were asked for have
 -- run, or they stopped. Their records were made and passed on to the store, if it asks for any. The program's ports,
 -- gates, clock and observer report no record, so the journals are known by their records alone
-pub record IsServed (R : Type 0) {S K : Type 0} (kept : K → Option Kept)
+pub record IsSiteServed (R : Type 0) {S K : Type 0} (kept : K → Option Kept)
     (refuses : K → TimedRecords → KeepFault → Type 0) (wants : K → Bool) (plan : Settings)
     (radios : List ℕ) (store : K) (terms : ℕ) (result : Result S Stopped)
     (last : Keeping K) : Type 0 where
@@ -91,4 +91,4 @@ pub record IsServedAgain (R : Type 0) {S K : Type 0} (reads : K → List ℕ →
   pub radios : List ℕ
   pub asked : K
   pub read : AreRestored reads cannot_read store radios asked
-  pub served : IsServed R kept refuses wants plan radios asked terms result last
+  pub served : IsSiteServed R kept refuses wants plan radios asked terms result last

@@ -6,7 +6,7 @@ ghost use Rattle.dmr_keeper.specs.Carried.{starting_with};
 ghost use Rattle.dmr_desk.specs.Service.{start_at};
 ghost use Rattle.dmr_trunk.specs.Faults.{IsServeFault};
 ghost use Rattle.dmr_trunk.specs.Scripts.{BeginsIfAsked};
-ghost use Rattle.dmr_trunk.specs.Served.{HasServed, IsServed};
+ghost use Rattle.dmr_trunk.specs.Served.{HasServed, IsSiteServed};
 ghost use Rattle.dmr_trunk.specs.Stored.{AreNewBooks, carried_if_wanted};
 
 use crate::ends::Connections;
@@ -247,7 +247,7 @@ where
     K: Keeper + Send + Drop,
     W: Script + Drop,
     R: Net + Log + Clock + Wait + Threads + Sync,
-    ensures { IfOk result (λ ran. IsServed R K.kept K.refuses K.wants plan.now radios.now keeper
+    ensures { IfOk result (λ ran. IsSiteServed R K.kept K.refuses K.wants plan.now radios.now keeper
         terms ran.result ran.keeping) }
 {
     match open_service(rt, alloc, &mut polls, plan, radios) {
@@ -335,7 +335,7 @@ where
     K: Keeper + Send + Drop,
     W: Script + Drop,
     R: Net + Log + Clock + Wait + Threads + Sync,
-    ensures { IfOk result (λ left. IsServed R K.kept K.refuses K.wants plan radios.now keeper
+    ensures { IfOk result (λ left. IsSiteServed R K.kept K.refuses K.wants plan radios.now keeper
         terms left.result left.keeping) }
 {
     let (wakers, polls) = open_wakers(rt, alloc, &plan)?;

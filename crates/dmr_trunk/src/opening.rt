@@ -262,9 +262,7 @@ pub fn open_service<'a, R: Net + Log + Clock>(
     ensures fits { IfOk result (λ service. Fits (start_of service)) }
 {
     plan.use_invariant();
-    let Ok(site) = Site::with_registered(alloc, *plan, radios) else {
-        return Err(NotServed::OutOfMemory);
-    };
+    let site = Site::with_registered(alloc, *plan, radios)?;
     match open_ports(rt, alloc, polls, plan) {
         Ok(opened) => {
             let Opened {

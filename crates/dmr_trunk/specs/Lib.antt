@@ -1,4 +1,6 @@
 pub mod Beat
+pub mod Faults
+pub mod Opened
 pub mod Replay
 pub mod Tally
 pub mod Scripts

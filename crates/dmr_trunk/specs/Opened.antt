@@ -23,12 +23,12 @@ use Rattle.dmr_desk.specs.Service.{start_at}
 use Rattle.dmr_desk.specs.Term.{Start}
 use Rattle.dmr_trunk.specs.declared.pacer.ClockPacer.{ClockPacer}
 
--- the plan's port for this owner, as it is opened: it has done nothing. Its sockets keep no log, and nobody sees its
--- answers
-abbrev pub new_port : Settings → Whose → PortState NoWitness
-new_port plan owner =
-    empty_port (record { whose = owner; greatest = greatest_of plan; silence = plan.silence }) None
-    (record {})
+-- the plan's port for this owner, as it is opened: it has done nothing. Its sockets keep no log and know no finding,
+-- and nobody sees its answers
+abbrev pub IsNewPort : Settings → Whose → PortState NoWitness → Type 0
+IsNewPort plan owner port =
+    port ≡ empty_port (record { whose = owner; greatest = greatest_of plan; silence = plan.silence })
+    None port.clock None None (record {})
 
 -- a link of this peer that has had no connection
 pub record IsNewLink (peer : Peer) (link : LinkState) : Type 0 where
@@ -43,7 +43,7 @@ pub record IsNewStation (plan : Settings) (number lpcn : ℕ)
     lpcn = lpcn;
     greatest = greatest_of plan;
   })) station.link
-  pub port : station.port ≡ new_port plan (whose.Carrier number lpcn)
+  pub port : IsNewPort plan (whose.Carrier number lpcn) station.port
 
 -- the station of the plan's carrier with this number, as it is opened, on the channel of the carrier's row
 abbrev pub IsNewStationOf : Settings → ℕ → Station (PortState NoWitness) OpenGate → Type 0
@@ -62,7 +62,7 @@ AreNewStations plan numbers stations = ⊥
 -- the console, as it is opened
 abbrev pub IsNewConsole : Settings → ConsoleStation (PortState NoWitness) → Type 0
 IsNewConsole plan console =
-    IsNewLink Operator console.link × (console.port ≡ new_port plan whose.Console)
+    IsNewLink Operator console.link × IsNewPort plan whose.Console console.port
 
 -- a service of the program
 abbrev pub ProgramService : Type 0 → Type 0

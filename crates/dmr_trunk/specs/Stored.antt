@@ -105,13 +105,17 @@ is_idle (Busy child) = false
 abbrev pub idle_store : {K : Type 0} → K → Keeping K
 idle_store keeper = record { keeper = keeper; outbox = []; fault = None }
 
+-- what is carried to the next term, if records are made
+abbrev pub carried_by : {K R : Type 0} → Books K R → Option Carry
+carried_by {R = R} books =
+    option_map (λ (maker : RecordMaker R). maker.recorder.carried) books.maker
+
 -- the books with which a site begins that has these radios: records are made if this store asks for any, and none wait
 pub record AreNewBooks {K R : Type 0} (wants : K → Bool) (radios : List ℕ) (store : K)
     (books : Books K R) : Type 0 where
   pub keeping : books.keeping ≡ idle_store store
   pub waiting : books.waiting.outbox ≡ []
-  pub carried : option_map (λ (maker : RecordMaker R). maker.recorder.carried) books.maker
-      ≡ carried_if_wanted (wants store) radios
+  pub carried : carried_by books ≡ carried_if_wanted (wants store) radios
 
 -- ---- the whole
 

@@ -1,11 +1,11 @@
 //! Opening what the first term of a site runs with: its polls, its ports, its clock and its site.
 
-ghost use Rattle.std.specs.Prelude.{◌≡◌, ◌++◌, ◌∷◌, [], ◌*◌, ℕ, IfOk, List, None, OnOk, vec_len};
+ghost use Rattle.std.specs.Prelude.{◌≡◌, ◌++◌, ◌∷◌, [], ◌*◌, ℕ, IfOk, List, None, Ok, OnOk, vec_len};
 ghost use Rattle.dmr_desk.specs.Refusing.{carrier_numbers};
 ghost use Rattle.dmr_desk.specs.Terms.{Fits};
 ghost use Rattle.dmr_trunk.specs.Faults.{fault_of_listening};
 ghost use Rattle.dmr_trunk.specs.Opened.{AreNewStations, IsFirstService, IsNewConsole};
-ghost use Rattle.dmr_trunk.specs.Opened.{IsNewStation, new_port, start_of, with_number};
+ghost use Rattle.dmr_trunk.specs.Opened.{IsNewPort, IsNewStation, start_of, with_number};
 
 use crate::mio_sockets::{ListenFault, MioSockets};
 use crate::not_served::NotServed;
@@ -80,7 +80,7 @@ fn make_port<'a, R: Net + Log + Clock>(
 ) -> Result<TcpPort<'a, R>, NotServed>
     requires newcomers { vec_len sockets.newcomers ≡ 0 }
     requires connection { sockets.connection ≡ None }
-    ensures { IfOk result (λ opened. opened ≡ new_port plan.now whose) }
+    ensures { IfOk result (IsNewPort plan.now whose) }
 {
     let is_control = is_control(plan, &whose);
     let settings = PortSettings {
@@ -107,7 +107,7 @@ fn open_port<'a, R: Net + Log + Clock>(
     whose: Whose,
     port: u16,
 ) -> Result<TcpPort<'a, R>, NotServed>
-    ensures { IfOk result (λ opened. opened ≡ new_port plan.now whose) }
+    ensures { IfOk result (IsNewPort plan.now whose) }
 {
     let notes = Notes::new(rt, alloc)?;
     let address = listen_address(plan, port);
@@ -135,14 +135,29 @@ fn open_station<'a, R: Net + Log + Clock>(
         number: carrier,
         lpcn: row.lpcn,
     };
+    let port = open_port(rt, alloc, polls, plan, whose, row.port)?;
     Ok(Station {
         link: Link::new(carrier, row.lpcn, greatest_version(plan)),
-        port: open_port(rt, alloc, polls, plan, whose, row.port)?,
+        port,
         gate: OpenGate,
     })
 }
 
-/// Appends an item to a list. It is generic, since an item that holds much and is dropped is expensive to prove.
+/// Returns what was opened now, with what was opened before, which is dropped if the former was not opened. It is generic,
+/// since a function that drops something that holds much is expensive to prove.
+pub fn beside<T: Drop, U>(before: T, opened: Result<U, NotServed>) -> Result<(T, U), NotServed>
+    ensures { IfOk result (λ both. (both.0 ≡ before) × (opened ≡ Ok both.1)) }
+{
+    match opened {
+        Ok(now) => Ok((before, now)),
+        Err(fault) => {
+            drop(before);
+            Err(fault)
+        }
+    }
+}
+
+/// Appends an item to a list. It is generic, for the same reason.
 fn push_to<T: Drop>(list: &mut Vec<T>, item: T) -> Result<(), NotServed>
     ensures { OnOk result (list.new.items ≡ list.old.items ++ item ∷ []) }
 {
@@ -171,6 +186,24 @@ fn open_next<'a, R: Net + Log + Clock>(
     push_to(stations, station)
 }
 
+/// Opens a station for each carrier of the plan, by number, and appends them to an empty list.
+fn fill_stations<'a, R: Net + Log + Clock>(
+    rt: &'a R,
+    alloc: Global,
+    polls: &mut Polls<'a>,
+    plan: &Plan,
+    stations: &mut Vec<CarrierAt<'a, R>>,
+) -> Result<(), NotServed>
+    requires { stations.old.items ≡ [] }
+    ensures { OnOk result
+        (AreNewStations plan.now (carrier_numbers plan.now) stations.new.items) }
+{
+    for number in 0..16u32 {
+        open_next(rt, alloc, polls, plan, CarrierNo::new(number), stations)?;
+    }
+    Ok(())
+}
+
 /// Opens a station for each carrier of the plan, by number.
 fn open_stations<'a, R: Net + Log + Clock>(
     rt: &'a R,
@@ -182,16 +215,8 @@ fn open_stations<'a, R: Net + Log + Clock>(
         (λ stations. AreNewStations plan.now (carrier_numbers plan.now) stations.items) }
 {
     let mut stations = Vec::new(alloc);
-    for number in 0..16u32 {
-        open_next(
-            rt,
-            alloc,
-            polls,
-            plan,
-            CarrierNo::new(number),
-            &mut stations,
-        )?;
-    }
+    let filled = fill_stations(rt, alloc, polls, plan, &mut stations);
+    let (stations, ()) = beside(stations, filled)?;
     Ok(stations)
 }
 
@@ -236,15 +261,16 @@ fn open_ports<'a, R: Net + Log + Clock>(
     ensures console { IfOk result (λ opened. IsNewConsole plan.now opened.console) }
 {
     let pacer = open_pacer(rt, alloc, polls, plan)?;
-    let stations = open_stations(rt, alloc, polls, plan)?;
-    let console = ConsoleStation {
-        link: ConsoleLink::new(),
-        port: open_port(rt, alloc, polls, plan, Whose::Console, plan.console_port())?,
-    };
+    let (pacer, stations) = beside(pacer, open_stations(rt, alloc, polls, plan))?;
+    let port = open_port(rt, alloc, polls, plan, Whose::Console, plan.console_port());
+    let ((pacer, stations), port) = beside((pacer, stations), port)?;
     Ok(Opened {
         stations,
         pacer,
-        console,
+        console: ConsoleStation {
+            link: ConsoleLink::new(),
+            port,
+        },
     })
 }
 
@@ -263,26 +289,19 @@ pub fn open_service<'a, R: Net + Log + Clock>(
 {
     plan.use_invariant();
     let site = Site::with_registered(alloc, *plan, radios)?;
-    match open_ports(rt, alloc, polls, plan) {
-        Ok(opened) => {
-            let Opened {
-                stations,
-                pacer,
-                console,
-            } = opened;
-            Ok(Service {
-                site,
-                stations,
-                pacer,
-                console,
-                spare: SpareLists::new(alloc),
-            })
-        }
-        Err(fault) => {
-            drop(site);
-            Err(fault)
-        }
-    }
+    let (site, opened) = beside(site, open_ports(rt, alloc, polls, plan))?;
+    let Opened {
+        stations,
+        pacer,
+        console,
+    } = opened;
+    Ok(Service {
+        site,
+        stations,
+        pacer,
+        console,
+        spare: SpareLists::new(alloc),
+    })
 }
 
 /// Makes a poll for each port of the plan and for its clock, and the wakers of all. If the system refuses one, notes

@@ -1,7 +1,7 @@
 //! A row of terms, as serving runs it: as many as were asked for, or without end. If there is no memory for a term, it
 //! is tried again. Meanwhile the records of earlier terms are handed to a store.
 
-ghost use Rattle.std.specs.Prelude.{◌≡◌, ◌↔◌, IfErr, IfOk, IsSome, IsTrue, OnOk, Some, option_map};
+ghost use Rattle.std.specs.Prelude.{◌≡◌, ◌↔◌, IfErr, IfOk, IsSome, IsTrue, OnOk, Some};
 ghost use Rattle.dmr_desk.specs.declared.fault.OpenFault.TheVariants.{OutOfMemory};
 ghost use Rattle.dmr_desk.specs.declared.fault.TermFault.TheVariants.{Open};
 ghost use Rattle.dmr_desk.specs.Refusing.{IsTermFault};
@@ -174,11 +174,8 @@ where
     O: Observer<Station<P, G>, T, ConsoleStation<C>> + Drop,
     K: Keeper + Send + Drop + 's,
     R: Log + Clock + Wait + Threads + Sync,
-    ensures { HasServed
-        (start_at P.reported G.passed T.paced C.reported service.site.plan.term_entries)
-        O.seen K.kept K.refuses service (O.seen observer)
-        (option_map (λ m. m.recorder.carried) books.entry.maker)
-        books.entry.keeping books.entry.waiting.outbox terms result }
+    ensures { HasServed P.reported G.passed T.paced C.reported O.seen K.kept K.refuses service
+        observer books.entry terms result }
 {
     let plan = *service.site.plan();
     let limit = plan.term_entries() as usize;
@@ -231,21 +228,15 @@ where
     O: Observer<Station<P, G>, T, ConsoleStation<C>> + Drop,
     K: Keeper + Send + Drop,
     R: Log + Clock + Wait + Threads + Sync,
-    ensures { HasServed
-        (start_at P.reported G.passed T.paced C.reported service.site.plan.term_entries)
-        O.seen K.kept K.refuses service (O.seen observer)
-        (option_map (λ m. m.recorder.carried) books.entry.maker)
-        books.entry.keeping books.entry.waiting.outbox terms result }
+    ensures { HasServed P.reported G.passed T.paced C.reported O.seen K.kept K.refuses service
+        observer books.entry terms result }
 {
     thread::scope(
         thread::scope_env(),
         rt,
         move |scope|
-            ensures { HasServed
-                (start_at P.reported G.passed T.paced C.reported service.site.plan.term_entries)
-                O.seen K.kept K.refuses service (O.seen observer)
-                (option_map (λ m. m.recorder.carried) books.entry.maker)
-                books.entry.keeping books.entry.waiting.outbox terms result }
+            ensures { HasServed P.reported G.passed T.paced C.reported O.seen K.kept K.refuses service
+                observer books.entry terms result }
         {
             serve_in(
                 rt, scope, written, &alloc, service, observer, books, notes, terms,
@@ -281,11 +272,8 @@ where
     O: Observer<Station<P, G>, T, ConsoleStation<C>> + Drop,
     K: Keeper + Send + Drop,
     R: Log + Clock + Wait + Threads + Sync,
-    ensures { HasServed
-        (start_at P.reported G.passed T.paced C.reported service.site.plan.term_entries)
-        O.seen K.kept K.refuses service (O.seen observer)
-        (option_map (λ m. m.recorder.carried) books.entry.maker)
-        books.entry.keeping books.entry.waiting.outbox terms result }
+    ensures { HasServed P.reported G.passed T.paced C.reported O.seen K.kept K.refuses service
+        observer books.entry terms result }
 {
     let written = AtomicBool::new(true);
     serve_beside(rt, &written, alloc, service, observer, books, notes, terms)

@@ -1,20 +1,19 @@
 //! Serving: a site over TCP, term by term.
 
-ghost use Rattle.std.specs.Prelude.{◌≡◌, IfErr, IfOk, IsOk, IsOkAnd, MatchResult, None};
-ghost use Rattle.std.specs.Prelude.{option_map};
+ghost use Rattle.std.specs.Prelude.{◌≡◌, Err, IfErr, IfOk, IsOk, IsOkAnd, MatchResult, None};
 ghost use Rattle.dmr_keeper.specs.Carried.{starting_with};
-ghost use Rattle.dmr_desk.specs.Service.{start_at};
 ghost use Rattle.dmr_trunk.specs.Faults.{IsServeFault};
 ghost use Rattle.dmr_trunk.specs.Scripts.{BeginsIfAsked};
-ghost use Rattle.dmr_trunk.specs.Served.{HasServed, IsSiteServed};
+ghost use Rattle.dmr_trunk.specs.Served.{HasLeft, IsSiteServed};
 ghost use Rattle.dmr_trunk.specs.Stored.{AreNewBooks, carried_if_wanted};
+ghost use Rattle.std.specs.Prelude.{option_map};
 
 use crate::ends::Connections;
 use crate::holding::Keeping;
 use crate::keeping::Waiting;
 use crate::not_served::NotServed;
 use crate::notes::Notes;
-use crate::opening::{CarrierAt, ConsoleAt, SiteService, open_service, open_wakers};
+use crate::opening::{CarrierAt, ConsoleAt, SiteService, beside, open_service, open_wakers};
 use crate::pacer::ClockPacer;
 use crate::recorded::RecordMaker;
 use crate::row::{Books, Ran, Stopped, serve_service};
@@ -80,7 +79,7 @@ fn make_records<'a, R: Net + Log + Clock + Wait>(
         (λ maker. maker.recorder.carried ≡ starting_with site.now.facts.registered) }
 {
     let carried = Carried::with_registered(alloc, site.registered())?;
-    let notes = Notes::new(rt, alloc)?;
+    let (carried, notes) = beside(carried, Notes::new(rt, alloc))?;
     Ok(RecordMaker::new(rt, alloc, Recorder::new(carried), notes))
 }
 
@@ -110,13 +109,15 @@ fn open_books<'a, K: Keeper + Drop, R: Net + Log + Clock + Wait>(
 ) -> Result<Books<'a, K, R>, NotServed>
     ensures { IfOk result (AreNewBooks K.wants site.now.facts.registered keeper) }
 {
+    let waiting = Outbox::new(alloc)?;
+    let outbox = Outbox::new(alloc)?;
     let maker = maker_if_wanted(rt, alloc, site, &keeper)?;
     Ok(Books {
         maker,
-        waiting: Waiting::new(Outbox::new(alloc)?),
+        waiting: Waiting::new(waiting),
         keeping: Keeping {
             keeper,
-            outbox: Outbox::new(alloc)?,
+            outbox,
             fault: None,
         },
     })
@@ -161,7 +162,8 @@ where
 {
     let mut log = TermLog::new(rt, Notes::new(rt, alloc)?, wakers);
     note_listening(service, &mut log);
-    let recording = begin_recording(rt, alloc, &service.site, script)?;
+    let recording = begin_recording(rt, alloc, &service.site, script);
+    let (log, recording) = beside(log, recording)?;
     Ok(Scripted {
         observer: log,
         recording,
@@ -187,76 +189,7 @@ where
         service.now.site.plan service.now.site.facts.registered script rest.1.recording) }
 {
     let books = open_books(rt, alloc, &service.site, keeper)?;
-    match observe(rt, alloc, wakers, service, script) {
-        Ok(observer) => Ok((books, observer)),
-        Err(fault) => {
-            drop(books);
-            Err(fault)
-        }
-    }
-}
-
-/// Runs the terms of a service, if the rest of what they need was opened. It is generic in what a service holds: a function
-/// that owns a service, and can end while it does, is expensive to prove. A call of this one is cheap.
-fn serve_opened<'a, P, G, T, C, O, K, R>(
-    rt: &R,
-    alloc: Global,
-    service: Service<P, G, T, C>,
-    rest: Result<(Books<'a, K, R>, O), NotServed>,
-    notes: &mut Notes<'a, R>,
-    terms: u32,
-) -> Result<Ran<Service<P, G, T, C>, O, K>, NotServed>
-where
-    P: Port + Send + Drop,
-    G: Gate + Send + Drop,
-    T: Pacer + Send + Drop,
-    C: Port + Send + Drop,
-    O: Observer<Station<P, G>, T, ConsoleStation<C>> + Drop,
-    K: Keeper + Send + Drop,
-    R: Log + Clock + Wait + Threads + Sync,
-    ensures { IfOk result (λ ran. IsOkAnd rest.entry (λ r. HasServed
-        (start_at P.reported G.passed T.paced C.reported service.site.plan.term_entries)
-        O.seen K.kept K.refuses service (O.seen r.1)
-        (option_map (λ m. m.recorder.carried) r.0.maker) r.0.keeping r.0.waiting.outbox terms
-        ran)) }
-{
-    match rest {
-        Ok((books, observer)) => {
-            Ok(serve_service(rt, alloc, service, observer, books, notes, terms))
-        }
-        Err(fault) => {
-            drop(service);
-            Err(fault)
-        }
-    }
-}
-
-/// Serves the site of a plan, whose ports and clock have these polls and wakers. Opens the ports, and runs the terms.
-fn serve_woken<'a, K, W, R>(
-    rt: &'a R,
-    alloc: Global,
-    mut polls: Polls<'a>,
-    plan: &Plan,
-    terms: u32,
-    keeper: K,
-    radios: &[Address],
-    script: Option<W>,
-    notes: &mut Notes<'a, R>,
-) -> Result<Ran<SiteService<'a, R>, LogAndScript<'a, W, R>, K>, NotServed>
-where
-    K: Keeper + Send + Drop,
-    W: Script + Drop,
-    R: Net + Log + Clock + Wait + Threads + Sync,
-    ensures { IfOk result (λ ran. IsSiteServed R K.kept K.refuses K.wants plan.now radios.now keeper
-        terms ran.result ran.keeping) }
-{
-    match open_service(rt, alloc, &mut polls, plan, radios) {
-        Ok(service) => {
-            let rest = open_rest(rt, alloc, polls.wakers, &service, keeper, script);
-            serve_opened(rt, alloc, service, rest, notes, terms)
-        }
-        Err(fault) => Err(fault),
-    }
+    beside(books, observe(rt, alloc, wakers, service, script))
 }
 
 /// What remains when serving has ended.
@@ -317,6 +250,67 @@ fn end_service<S: Drop, O: Drop, K, R: Log>(
     }
 }
 
+/// Runs the terms of a service, if the rest of what they need was opened, and drops what they left, except for the store. It
+/// is generic in what a service holds: a function that owns a service, and can end while it does, is expensive to prove. A
+/// call of this one is cheap.
+fn serve_opened<'a, P, G, T, C, O, K, R>(
+    rt: &R,
+    alloc: Global,
+    service: Service<P, G, T, C>,
+    rest: Result<(Books<'a, K, R>, O), NotServed>,
+    notes: &mut Notes<'a, R>,
+    terms: u32,
+) -> Result<Remains<K>, NotServed>
+where
+    P: Port + Send + Drop,
+    G: Gate + Send + Drop,
+    T: Pacer + Send + Drop,
+    C: Port + Send + Drop,
+    O: Observer<Station<P, G>, T, ConsoleStation<C>> + Drop,
+    K: Keeper + Send + Drop,
+    R: Log + Clock + Wait + Threads + Sync,
+    ensures { IfOk result (λ left. IsOkAnd rest.entry (λ r. HasLeft P.reported G.passed T.paced
+        C.reported O.seen K.kept K.refuses service r.1 r.0 terms left)) }
+{
+    match rest {
+        Ok((books, observer)) => {
+            let ran = serve_service(rt, alloc, service, observer, books, notes, terms);
+            Ok(end_service(ran, notes))
+        }
+        Err(fault) => {
+            drop(service);
+            Err(fault)
+        }
+    }
+}
+
+/// Serves the site of a plan, whose ports and clock have these polls and wakers. Opens the ports, and runs the terms.
+fn serve_woken<'a, K, W, R>(
+    rt: &'a R,
+    alloc: Global,
+    mut polls: Polls<'a>,
+    plan: &Plan,
+    terms: u32,
+    keeper: K,
+    radios: &[Address],
+    script: Option<W>,
+) -> Result<Remains<K>, NotServed>
+where
+    K: Keeper + Send + Drop,
+    W: Script + Drop,
+    R: Net + Log + Clock + Wait + Threads + Sync,
+    ensures { IfOk result (IsSiteServed R K.kept K.refuses K.wants plan.now radios.now keeper terms) }
+{
+    let mut notes = Notes::new(rt, alloc)?;
+    match open_service(rt, alloc, &mut polls, plan, radios) {
+        Ok(service) => {
+            let rest = open_rest(rt, alloc, polls.wakers, &service, keeper, script);
+            serve_opened(rt, alloc, service, rest, &mut notes, terms)
+        }
+        Err(fault) => Err(fault),
+    }
+}
+
 /// Serves the site of a plan over TCP, as [`serve`] does, and has a store keep the records of its terms. At the start
 /// those of `radios` are registered that the plan lists, in their order; after a restart these are the ones that the
 /// store has. A store that fails does not stop serving: its fault is noted, and the records wait for the next term.
@@ -335,21 +329,14 @@ where
     K: Keeper + Send + Drop,
     W: Script + Drop,
     R: Net + Log + Clock + Wait + Threads + Sync,
-    ensures { IfOk result (λ left. IsSiteServed R K.kept K.refuses K.wants plan radios.now keeper
-        terms left.result left.keeping) }
+    ensures { IfOk result (IsSiteServed R K.kept K.refuses K.wants plan radios.now keeper terms) }
 {
     let (wakers, polls) = open_wakers(rt, alloc, &plan)?;
     let polls = Polls {
         wakers: &wakers,
         polls,
     };
-    let mut notes = Notes::new(rt, alloc)?;
-    match serve_woken(
-        rt, alloc, polls, &plan, terms, keeper, radios, script, &mut notes,
-    ) {
-        Ok(ran) => Ok(end_service(ran, &mut notes)),
-        Err(fault) => Err(fault),
-    }
+    serve_woken(rt, alloc, polls, &plan, terms, keeper, radios, script)
 }
 
 /// Serves the site of a plan over TCP. Listens at each carrier's port, by number, and at the console's, and runs

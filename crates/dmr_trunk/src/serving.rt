@@ -63,8 +63,8 @@ where
     K: Store + Send + Drop,
     F: Script + Drop,
     R: Net + Log + Clock + Wait + Threads + Sync,
-    ensures { IfOk result (λ left. IsServedAgain R K.reads K.cannot_read K.kept K.refuses K.wants
-        plan store terms left.result left.keeping) }
+    ensures { IfOk result (IsServedAgain R K.reads K.cannot_read K.kept K.refuses K.wants plan
+        store terms) }
 {
     let radios = read_registered(rt, alloc, &mut store, notes);
     serve_kept(rt, alloc, plan, terms, store, radios.as_slice(), script)
@@ -86,8 +86,7 @@ where
     F: Script + Drop,
     R: Net + Log + Clock + Wait + Threads + Sync,
     ensures { IfOk result (λ left. IfSome store (λ store. IsSomeAnd left
-        (λ left. IsServedAgain R K.reads K.cannot_read K.kept K.refuses K.wants plan store terms
-        left.result left.keeping))) }
+        (IsServedAgain R K.reads K.cannot_read K.kept K.refuses K.wants plan store terms))) }
 {
     match store {
         Some(store) => { Ok(Some(serve_again(rt, alloc, plan, terms, store, script, notes)?)) }

@@ -2,7 +2,7 @@ use Rattle.std.proofs.Common.{◌≡◌, ℕ, ◌+◌, List, arith, add-one, zer
 use Rattle.dmr_desk.specs.Refusing.{numbers_from}
 use Rattle.dmr_trunk.specs.Opened.{AreNewStations, with_number}
 use Rattle.dmr_trunk.proofs.OpenedLemmas.{numbers_on}
-use Rattle.dmr_trunk.proofs.opening.open_stations.Goals as goal
+use Rattle.dmr_trunk.proofs.opening.fill_stations.Goals as goal
 
 pub loop-number-preserved : goal.loop-number-preserved
 loop-number-preserved g c =

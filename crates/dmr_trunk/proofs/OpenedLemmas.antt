@@ -1,10 +1,10 @@
 -- What serving opens has a station for each carrier of the plan, by number, and its first term can begin.
-use Rattle.std.proofs.Common.{◌≡◌, ℕ, zero, suc, ◌+◌, List, [], ◌∷◌, ◌++◌, Bool, true, false, Option, None, Some, IsSomeAnd, Result, Ok, Err, OnOk, map, refl, sym, ◌∙◌, ap, subst, arith, add-zero, if◌then◌else◌}
+use Rattle.std.proofs.Common.{◌≡◌, ℕ, zero, suc, ◌+◌, List, [], ◌∷◌, ◌++◌, Bool, true, false, Option, None, Some, IsSomeAnd, Result, Ok, Err, IfOk, OnOk, map, refl, sym, ◌∙◌, ap, subst, arith, add-zero, if◌then◌else◌}
 use Rattle.dmr_plan.specs.declared.carriers.CarrierRow.{CarrierRow}
 use Rattle.dmr_plan.specs.declared.settings.Settings.{Settings}
 use Rattle.dmr_plan.specs.Carriers.{row_with}
 use Rattle.dmr_plan.specs.IsPlan.{IsPlan}
-use Rattle.dmr_core.specs.Facts.{has_carrier}
+use Rattle.dmr_core.specs.Facts.{Facts, has_carrier}
 use Rattle.dmr_core.specs.State.{SiteState}
 use Rattle.dmr_link.specs.declared.desk.OpenGate.{OpenGate}
 use Rattle.dmr_port.specs.declared.witness.NoWitness.{NoWitness}
@@ -13,9 +13,8 @@ use Rattle.dmr_desk.specs.declared.station.Station.{Station}
 use Rattle.dmr_desk.specs.Opening.{IsLimit}
 use Rattle.dmr_desk.specs.Refusing.{AreStations, carrier_numbers, carrier_of_peer, numbers_from}
 use Rattle.dmr_desk.specs.Service.{states_of}
-use Rattle.dmr_desk.specs.Terms.{Fits}
 use Rattle.dmr_desk.specs.Work.{StationState}
-use Rattle.dmr_trunk.specs.Opened.{AreNewStations, IsFirstService, IsNewStation, IsNewStationOf, ProgramService, start_of, with_number}
+use Rattle.dmr_trunk.specs.Opened.{AreNewStations, IsNewStation, IsNewStationOf, with_number}
 
 -- ---- the carriers by number
 
@@ -82,8 +81,12 @@ stations_by_number plan (n ∷ numbers) [] are = absurd are
 
 -- ---- the first term
 
-pub first_fits : {R : Type 0} (plan : Settings) (radios : List ℕ) (service : ProgramService R) → IsPlan plan → IsFirstService plan radios service → Fits (start_of service)
-first_fits plan radios service whole is =
-    let same : service.site.plan ≡ plan = ap (λ (site : SiteState). site.plan) is.site in
-    let P : Settings → Type 0 = λ p. AreStations p (states_of (λ port. None) (λ gate. None) service.stations.items) × IsLimit p.term_entries in
-    subst P (sym same) (stations_by_number plan (carrier_numbers plan) service.stations.items is.stations, whole.term_entries)
+-- what is ensured of a result, if it is this
+pub at_ok : {A E : Type 0} (P : A → Type 0) (r : Result A E) (x : A) → r ≡ Ok x → IfOk r P → P x
+at_ok P r x is given = subst (λ s. IfOk s P) is given
+
+pub first_fits : (plan : Settings) (facts : Facts) (site : SiteState) (stations : List (Station (PortState NoWitness) OpenGate)) → IsPlan plan → site ≡ record { plan = plan; facts = facts } → AreNewStations plan (carrier_numbers plan) stations
+    → AreStations site.plan (states_of (λ port. None) (λ gate. None) stations) × IsLimit site.plan.term_entries
+first_fits plan facts site stations whole same are =
+    let P : Settings → Type 0 = λ p. AreStations p (states_of (λ port. None) (λ gate. None) stations) × IsLimit p.term_entries in
+    subst P (sym (ap (λ (s : SiteState). s.plan) same)) (stations_by_number plan (carrier_numbers plan) stations are, whole.term_entries)

@@ -1,6 +1,7 @@
 //! Opening what the first term of a site runs with: its polls, its ports, its clock and its site.
 
 ghost use Rattle.std.specs.Prelude.{◌≡◌, ◌++◌, ◌∷◌, [], ◌*◌, ℕ, IfOk, List, None, Ok, OnOk, vec_len};
+ghost use Rattle.dmr_port.specs.declared.whose.Whose.TheVariants.{Console};
 ghost use Rattle.dmr_desk.specs.Refusing.{carrier_numbers};
 ghost use Rattle.dmr_desk.specs.Terms.{Fits};
 ghost use Rattle.dmr_trunk.specs.Faults.{fault_of_listening};
@@ -157,6 +158,25 @@ pub fn beside<T: Drop, U>(before: T, opened: Result<U, NotServed>) -> Result<(T,
     }
 }
 
+/// Does what [`beside`] does, for something and a list.
+fn beside_list<T: Drop, S: Drop, U>(
+    before: T,
+    list: Vec<S>,
+    opened: Result<U, NotServed>,
+) -> Result<(T, Vec<S>, U), NotServed>
+    ensures { IfOk result
+        (λ all. (all.0 ≡ before) × (all.1 ≡ list) × (opened ≡ Ok all.2)) }
+{
+    match opened {
+        Ok(now) => Ok((before, list, now)),
+        Err(fault) => {
+            drop(before);
+            drop(list);
+            Err(fault)
+        }
+    }
+}
+
 /// Appends an item to a list. It is generic, for the same reason.
 fn push_to<T: Drop>(list: &mut Vec<T>, item: T) -> Result<(), NotServed>
     ensures { OnOk result (list.new.items ≡ list.old.items ++ item ∷ []) }
@@ -204,20 +224,21 @@ fn fill_stations<'a, R: Net + Log + Clock>(
     Ok(())
 }
 
-/// Opens a station for each carrier of the plan, by number.
-fn open_stations<'a, R: Net + Log + Clock>(
+/// Opens a station for each carrier of the plan, by number, which it appends to an empty list, and then the console's port.
+fn open_listening<'a, R: Net + Log + Clock>(
     rt: &'a R,
     alloc: Global,
     polls: &mut Polls<'a>,
     plan: &Plan,
-) -> Result<Vec<CarrierAt<'a, R>>, NotServed>
-    ensures { IfOk result
-        (λ stations. AreNewStations plan.now (carrier_numbers plan.now) stations.items) }
+    stations: &mut Vec<CarrierAt<'a, R>>,
+) -> Result<TcpPort<'a, R>, NotServed>
+    requires { stations.old.items ≡ [] }
+    ensures stations { OnOk result
+        (AreNewStations plan.now (carrier_numbers plan.now) stations.new.items) }
+    ensures console { IfOk result (IsNewPort plan.now Console) }
 {
-    let mut stations = Vec::new(alloc);
-    let filled = fill_stations(rt, alloc, polls, plan, &mut stations);
-    let (stations, ()) = beside(stations, filled)?;
-    Ok(stations)
+    fill_stations(rt, alloc, polls, plan, stations)?;
+    open_port(rt, alloc, polls, plan, Whose::Console, plan.console_port())
 }
 
 /// Opens the clock. It has notes of its own, since it is asked in a thread of its own.
@@ -261,9 +282,9 @@ fn open_ports<'a, R: Net + Log + Clock>(
     ensures console { IfOk result (λ opened. IsNewConsole plan.now opened.console) }
 {
     let pacer = open_pacer(rt, alloc, polls, plan)?;
-    let (pacer, stations) = beside(pacer, open_stations(rt, alloc, polls, plan))?;
-    let port = open_port(rt, alloc, polls, plan, Whose::Console, plan.console_port());
-    let ((pacer, stations), port) = beside((pacer, stations), port)?;
+    let mut stations = Vec::new(alloc);
+    let port = open_listening(rt, alloc, polls, plan, &mut stations);
+    let (pacer, stations, port) = beside_list(pacer, stations, port)?;
     Ok(Opened {
         stations,
         pacer,

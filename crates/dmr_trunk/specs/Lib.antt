@@ -1,4 +1,6 @@
 pub mod Beat
+pub mod Faults
+pub mod Opened
 pub mod Replay
 pub mod Scripts
 pub mod Stored

@@ -1,5 +1,5 @@
 -- Scripts to which a site is recorded.
-use Rattle.std.specs.Prelude.{◌≡◌, ◌<◌, ◌+◌, ℕ, List, [], ◌∷◌, ◌++◌, length, Bool, true, false, ◌⊎◌, Option, None, Some, IfSome}
+use Rattle.std.specs.Prelude.{◌≡◌, ◌<◌, ◌+◌, ℕ, List, [], ◌∷◌, ◌++◌, length, Bool, true, false, ◌⊎◌, Option, None, Some, IfSome, IsSomeAnd, replicate}
 use Rattle.dmr_core.specs.declared.event.Event.{Event}
 use Rattle.dmr_plan.specs.declared.settings.Settings.{Settings}
 use Rattle.dmr_recording.specs.declared.fault.RecordingFault.TheVariants.{OutOfMemory}
@@ -13,6 +13,7 @@ use Rattle.dmr_trunk.specs.declared.script.ScriptFault.TheVariants.{Exists, Cann
 use Rattle.dmr_trunk.specs.declared.script.ScriptFault.TheVariants.{Full, NotWritten, Removed}
 use Rattle.dmr_trunk.specs.declared.scripted.Ending.{Ending}
 use Rattle.dmr_trunk.specs.declared.scripted.Ending.TheVariants.{NotRecorded, Refused}
+use Rattle.dmr_trunk.specs.declared.scripted.Recording.{Recording}
 
 -- between two moments these octets were appended, and no others. So if the script reports at the second moment, it has
 -- what it had at the first, and these
@@ -61,6 +62,26 @@ abbrev pub IsEnding : (List ℕ → ScriptFault → Type 0) → Settings → Lis
 IsEnding refuses plan up events (NotRecorded fault) =
     (fault ≡ OutOfMemory) ⊎ IsFirstFault plan up 0 events fault
 IsEnding refuses plan up events (Refused fault) = refuses (lines_of plan events) fault
+
+-- the recording of a plan's site begins, on which these radios are registered. If there are any, the script has the
+-- lines of the session in which they register; if it cannot, the recording has ended
+pub record BeginsRecording {W R : Type 0} (appended : W → Option (List ℕ))
+    (refuses : W → List ℕ → ScriptFault → Type 0) (plan : Settings) (radios : List ℕ) (script : W)
+    (recording : Recording W R) : Type 0 where
+  pub planned : recording.plan ≡ plan
+  pub up : recording.up ≡ replicate 16 false
+  pub lines : recording.ending ≡ None → Appends (appended script)
+      (lines_of plan (events_at_start plan radios)) (appended recording.script)
+  pub ending : IfSome recording.ending
+      (IsEnding (refuses script) plan (replicate 16 false) (events_at_start plan radios))
+
+-- the same if there is a script; without one nothing is recorded
+abbrev pub BeginsIfAsked : {W R : Type 0} → (W → Option (List ℕ))
+    → (W → List ℕ → ScriptFault → Type 0) → Settings → List ℕ → Option W → Option (Recording W R)
+    → Type 0
+BeginsIfAsked appended refuses plan radios None recording = recording ≡ None
+BeginsIfAsked appended refuses plan radios (Some script) recording =
+    IsSomeAnd recording (BeginsRecording appended refuses plan radios script)
 
 -- a recording was given further events. If it goes on, each of them could be recorded, and the lines of all were
 -- appended; otherwise nothing was. A recording that ends now has a reason among these events. One that had ended before

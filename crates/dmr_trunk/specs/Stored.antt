@@ -1,6 +1,6 @@
 -- What becomes of the records of terms: they are made from the journals, they wait, and they are handed to the store.
 use Rattle.std.specs.Prelude.{◌≡◌, ℕ, ◌+◌, ◌≤◌, ◌<◌, ◌^◌, List, [], ◌∷◌, ◌++◌, length}
-use Rattle.std.specs.Prelude.{Bool, true, false, Option, None, Some, IfSome, IsSomeAnd}
+use Rattle.std.specs.Prelude.{Bool, true, false, Option, None, Some, IfSome, IsSomeAnd, option_map}
 use Rattle.dmr_core.specs.declared.entry.Entry.{Entry}
 use Rattle.dmr_plan.specs.declared.settings.Settings.{Settings}
 use Rattle.dmr_keeper.specs.declared.keeper.KeepFault.{KeepFault}
@@ -13,6 +13,8 @@ use Rattle.dmr_keeper.specs.Ticks.{ticks_in}
 use Rattle.dmr_trunk.specs.declared.holding.Keeping.{Keeping}
 use Rattle.dmr_trunk.specs.declared.holding.Writer.{Writer}
 use Rattle.dmr_trunk.specs.declared.holding.Writer.TheVariants.{Idle, Busy}
+use Rattle.dmr_trunk.specs.declared.recorded.RecordMaker.{RecordMaker}
+use Rattle.dmr_trunk.specs.declared.row.Books.{Books}
 
 -- ---- records that are made
 
@@ -98,6 +100,22 @@ held (Busy child) = child.promise.0.value
 abbrev pub is_idle : {K : Type 0} → Writer K → Bool
 is_idle (Idle keeping) = true
 is_idle (Busy child) = false
+
+-- a store to which nothing is to be handed
+abbrev pub idle_store : {K : Type 0} → K → Keeping K
+idle_store keeper = record { keeper = keeper; outbox = []; fault = None }
+
+-- what is carried to the next term, if records are made
+abbrev pub carried_by : {K R : Type 0} → Books K R → Option Carry
+carried_by {R = R} books =
+    option_map (λ (maker : RecordMaker R). maker.recorder.carried) books.maker
+
+-- the books with which a site begins that has these radios: records are made if this store asks for any, and none wait
+pub record AreNewBooks {K R : Type 0} (wants : K → Bool) (radios : List ℕ) (store : K)
+    (books : Books K R) : Type 0 where
+  pub keeping : books.keeping ≡ idle_store store
+  pub waiting : books.waiting.outbox ≡ []
+  pub carried : carried_by books ≡ carried_if_wanted (wants store) radios
 
 -- ---- the whole
 

@@ -29,6 +29,7 @@ mod journald;
 mod keeping;
 mod lock;
 mod mio_sockets;
+mod not_served;
 mod notes;
 mod opening;
 mod pacer;

@@ -1,10 +1,10 @@
 //! Notes: the serving program's log, on standard error.
 
+use crate::not_served::NotServed;
 use crate::script::ScriptFault;
 use crate::term_log::Happened;
 use dmr_command::VERSION;
 use dmr_keeper::{KeepFault, MOST_WAITING};
-use dmr_pdu::OutOfMemory;
 use dmr_port::{Note, Whose};
 use dmr_recording::RecordingFault;
 use dmr_registry::MOST_RADIOS;
@@ -39,8 +39,9 @@ pub struct Notes<'a, R> {
 }
 
 impl<'a, R: Log> Notes<'a, R> {
-    /// Allocates memory for the polling of standard error. `None` if there is no poll; it is noted why.
-    pub fn new(rt: &'a R, alloc: Global) -> Result<Option<Notes<'a, R>>, OutOfMemory>
+    /// Allocates memory for the polling of standard error. The error is `OutOfMemory`, or `NoPoll` if there is no poll;
+    /// it is noted why.
+    pub fn new(rt: &'a R, alloc: Global) -> Result<Notes<'a, R>, NotServed>
     where
         R: Net,
     {
@@ -50,19 +51,19 @@ impl<'a, R: Log> Notes<'a, R> {
             Err(error) => {
                 // Nobody is served yet, so nobody waits if standard error does not take this.
                 warn!(*rt; target: TARGET, "cannot poll: {error}");
-                return Ok(None);
+                return Err(NotServed::NoPoll);
             }
         };
         let waits = poll
             .registry()
             .register(&mut SourceFd(&STANDARD_ERROR), Token(0), Interest::WRITABLE)
             .is_ok();
-        Ok(Some(Notes {
+        Ok(Notes {
             rt,
             poll,
             events,
             waits,
-        }))
+        })
     }
 
     /// Whether standard error takes a line at once.

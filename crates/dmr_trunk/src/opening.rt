@@ -1,19 +1,24 @@
 //! Opening what the first term of a site runs with: its polls, its ports, its clock and its site.
 
-ghost use Rattle.std.specs.Prelude.{◌≡◌, ◌*◌, IfOk, None, vec_len};
-ghost use Rattle.dmr_core.specs.Restored.{facts_with, restored};
-ghost use Rattle.dmr_link.specs.Identities.{greatest_of};
+ghost use Rattle.std.specs.Prelude.{◌≡◌, ◌++◌, ◌∷◌, [], ◌*◌, ℕ, IfOk, List, None, Ok, OnOk, vec_len};
+ghost use Rattle.dmr_port.specs.declared.whose.Whose.TheVariants.{Console};
+ghost use Rattle.dmr_desk.specs.Refusing.{carrier_numbers};
+ghost use Rattle.dmr_desk.specs.Terms.{Fits};
+ghost use Rattle.dmr_trunk.specs.Faults.{fault_of_listening};
+ghost use Rattle.dmr_trunk.specs.Opened.{AreNewStations, IsFirstService, IsNewConsole};
+ghost use Rattle.dmr_trunk.specs.Opened.{IsNewPort, IsNewStation, start_of, with_number};
 
 use crate::mio_sockets::{ListenFault, MioSockets};
+use crate::not_served::NotServed;
 use crate::notes::Notes;
 use crate::pacer::ClockPacer;
 use crate::port_watch::PortWatch;
 use crate::wakers::{ClockWait, PollFault, Polls, Wakers, open_polls};
-use dmr_command::{ServeFault, listen_address};
+use dmr_command::listen_address;
 use dmr_core::Site;
 use dmr_desk::{ConsoleStation, Service, SpareLists, Station};
 use dmr_link::{ConsoleLink, Link, OpenGate, greatest_version};
-use dmr_pdu::{Address, CarrierNo, OutOfMemory};
+use dmr_pdu::{Address, CarrierNo};
 use dmr_plan::{CarrierRow, Plan};
 use dmr_port::{PortSettings, ServingPort, Whose};
 use log::Log;
@@ -34,24 +39,26 @@ pub type ConsoleAt<'a, R> = ConsoleStation<TcpPort<'a, R>>;
 /// The state that continues from term to term.
 pub type SiteService<'a, R> = Service<TcpPort<'a, R>, OpenGate, ClockPacer<'a, R>, TcpPort<'a, R>>;
 
-/// Notes why a port cannot listen, and returns the fault of serving that it is.
+/// Notes why a port cannot listen, and returns why nothing is served then.
 fn fault_of_port<R: Log>(
     mut notes: Notes<'_, R>,
     whose: Whose,
     address: SocketAddr,
     port: u16,
     fault: ListenFault,
-) -> ServeFault {
+) -> NotServed
+    ensures { result ≡ fault_of_listening port fault }
+{
     match fault {
         ListenFault::CannotListen(error) => {
             notes.cannot_listen(whose, address, &error);
-            ServeFault::CannotListen(port)
+            NotServed::CannotListen(port)
         }
         ListenFault::NoPoll(error) => {
             notes.cannot_poll(&error);
-            ServeFault::NoPoll
+            NotServed::NoPoll
         }
-        ListenFault::OutOfMemory => ServeFault::OutOfMemory,
+        ListenFault::OutOfMemory => NotServed::OutOfMemory,
     }
 }
 
@@ -71,11 +78,10 @@ fn make_port<'a, R: Net + Log + Clock>(
     whose: Whose,
     notes: Notes<'a, R>,
     sockets: MioSockets<'a, R>,
-) -> Result<TcpPort<'a, R>, ServeFault>
+) -> Result<TcpPort<'a, R>, NotServed>
     requires newcomers { vec_len sockets.newcomers ≡ 0 }
     requires connection { sockets.connection ≡ None }
-    ensures { IfOk result (λ opened. opened.settings
-        ≡ record { whose = whose; greatest = greatest_of plan.now; silence = plan.now.silence }) }
+    ensures { IfOk result (IsNewPort plan.now whose) }
 {
     let is_control = is_control(plan, &whose);
     let settings = PortSettings {
@@ -88,7 +94,7 @@ fn make_port<'a, R: Net + Log + Clock>(
         Ok(opened) => Ok(opened),
         Err(refused) => {
             drop(refused);
-            Err(ServeFault::OutOfMemory)
+            Err(NotServed::OutOfMemory)
         }
     }
 }
@@ -101,14 +107,13 @@ fn open_port<'a, R: Net + Log + Clock>(
     plan: &Plan,
     whose: Whose,
     port: u16,
-) -> Result<TcpPort<'a, R>, ServeFault>
-    ensures { IfOk result (λ opened. opened.settings
-        ≡ record { whose = whose; greatest = greatest_of plan.now; silence = plan.now.silence }) }
+) -> Result<TcpPort<'a, R>, NotServed>
+    ensures { IfOk result (IsNewPort plan.now whose) }
 {
-    let notes = open_notes(rt, alloc)?;
+    let notes = Notes::new(rt, alloc)?;
     let address = listen_address(plan, port);
     let Some(poll) = polls.polls.pop() else {
-        return Err(ServeFault::NoPoll);
+        return Err(NotServed::NoPoll);
     };
     match MioSockets::listen(rt, alloc, poll, polls.wakers, address) {
         Ok(sockets) => make_port(rt, alloc, plan, whose, notes, sockets),
@@ -124,45 +129,116 @@ fn open_station<'a, R: Net + Log + Clock>(
     plan: &Plan,
     carrier: CarrierNo,
     row: &CarrierRow,
-) -> Result<CarrierAt<'a, R>, ServeFault> {
+) -> Result<CarrierAt<'a, R>, NotServed>
+    ensures { IfOk result (IsNewStation plan.now carrier row.now.lpcn) }
+{
     let whose = Whose::Carrier {
         number: carrier,
         lpcn: row.lpcn,
     };
+    let port = open_port(rt, alloc, polls, plan, whose, row.port)?;
     Ok(Station {
         link: Link::new(carrier, row.lpcn, greatest_version(plan)),
-        port: open_port(rt, alloc, polls, plan, whose, row.port)?,
+        port,
         gate: OpenGate,
     })
 }
 
-/// Opens a station for each carrier of the plan, by number.
-fn open_stations<'a, R: Net + Log + Clock>(
+/// Returns what was opened now, with what was opened before, which is dropped if the former was not opened. It is generic,
+/// since a function that drops something that holds much is expensive to prove.
+pub fn beside<T: Drop, U>(before: T, opened: Result<U, NotServed>) -> Result<(T, U), NotServed>
+    ensures { IfOk result (λ both. (both.0 ≡ before) × (opened ≡ Ok both.1)) }
+{
+    match opened {
+        Ok(now) => Ok((before, now)),
+        Err(fault) => {
+            drop(before);
+            Err(fault)
+        }
+    }
+}
+
+/// Does what [`beside`] does, for something and a list.
+fn beside_list<T: Drop, S: Drop, U>(
+    before: T,
+    list: Vec<S>,
+    opened: Result<U, NotServed>,
+) -> Result<(T, Vec<S>, U), NotServed>
+    ensures { IfOk result
+        (λ all. (all.0 ≡ before) × (all.1 ≡ list) × (opened ≡ Ok all.2)) }
+{
+    match opened {
+        Ok(now) => Ok((before, list, now)),
+        Err(fault) => {
+            drop(before);
+            drop(list);
+            Err(fault)
+        }
+    }
+}
+
+/// Appends an item to a list. It is generic, for the same reason.
+fn push_to<T: Drop>(list: &mut Vec<T>, item: T) -> Result<(), NotServed>
+    ensures { OnOk result (list.new.items ≡ list.old.items ++ item ∷ []) }
+{
+    match list.push(item) {
+        Ok(()) => Ok(()),
+        Err(_) => Err(NotServed::OutOfMemory),
+    }
+}
+
+/// Opens the station of a carrier, if the plan has it, and appends it to the others.
+fn open_next<'a, R: Net + Log + Clock>(
     rt: &'a R,
     alloc: Global,
     polls: &mut Polls<'a>,
     plan: &Plan,
-) -> Result<Vec<CarrierAt<'a, R>>, ServeFault> {
-    let mut stations = Vec::new(alloc);
-    for number in 0..16u32 {
-        let carrier = CarrierNo::new(number);
-        if let Some(row) = plan.carrier_with(carrier) {
-            let station = open_station(rt, alloc, polls, plan, carrier, &row)?;
-            if stations.push(station).is_err() {
-                return Err(ServeFault::OutOfMemory);
-            }
-        }
-    }
-    Ok(stations)
+    carrier: CarrierNo,
+    stations: &mut Vec<CarrierAt<'a, R>>,
+) -> Result<(), NotServed>
+    ensures { OnOk result ((numbers : List ℕ) → AreNewStations plan.now numbers stations.old.items
+        → AreNewStations plan.now (with_number plan.now numbers carrier) stations.new.items) }
+{
+    let Some(row) = plan.carrier_with(carrier) else {
+        return Ok(());
+    };
+    let station = open_station(rt, alloc, polls, plan, carrier, &row)?;
+    push_to(stations, station)
 }
 
-/// Opens the notes to standard error. The error is `NoPoll` or `OutOfMemory`.
-pub fn open_notes<R: Net + Log>(rt: &R, alloc: Global) -> Result<Notes<'_, R>, ServeFault> {
-    match Notes::new(rt, alloc) {
-        Ok(Some(notes)) => Ok(notes),
-        Ok(None) => Err(ServeFault::NoPoll),
-        Err(OutOfMemory) => Err(ServeFault::OutOfMemory),
+/// Opens a station for each carrier of the plan, by number, and appends them to an empty list.
+fn fill_stations<'a, R: Net + Log + Clock>(
+    rt: &'a R,
+    alloc: Global,
+    polls: &mut Polls<'a>,
+    plan: &Plan,
+    stations: &mut Vec<CarrierAt<'a, R>>,
+) -> Result<(), NotServed>
+    requires { stations.old.items ≡ [] }
+    ensures { OnOk result
+        (AreNewStations plan.now (carrier_numbers plan.now) stations.new.items) }
+{
+    for number in 0..16u32 {
+        open_next(rt, alloc, polls, plan, CarrierNo::new(number), stations)?;
     }
+    Ok(())
+}
+
+/// Opens a station for each carrier of the plan, by number, which it appends to an empty list, and then the console's port.
+fn open_listening<'a, R: Net + Log + Clock>(
+    rt: &'a R,
+    alloc: Global,
+    polls: &mut Polls<'a>,
+    plan: &Plan,
+    stations: &mut Vec<CarrierAt<'a, R>>,
+) -> Result<TcpPort<'a, R>, NotServed>
+    requires { stations.old.items ≡ [] }
+    ensures stations { OnOk result
+        (AreNewStations plan.now (carrier_numbers plan.now) stations.new.items) }
+    ensures console { IfOk result (IsNewPort plan.now Console) }
+{
+    fill_stations(rt, alloc, polls, plan, stations)?;
+    open_port(rt, alloc, polls, plan, Whose::Console, plan.console_port())
 }
 
 /// Opens the clock. It has notes of its own, since it is asked in a thread of its own.
@@ -171,17 +247,17 @@ fn open_pacer<'a, R: Net + Log + Clock>(
     alloc: Global,
     polls: &mut Polls<'a>,
     plan: &Plan,
-) -> Result<ClockPacer<'a, R>, ServeFault>
+) -> Result<ClockPacer<'a, R>, NotServed>
     ensures { IfOk result
         (λ pacer. pacer.ticks ≡ record { tick = plan.now.tick_ms * 1000000; from = None }) }
 {
     let Some(poll) = polls.polls.pop() else {
-        return Err(ServeFault::NoPoll);
+        return Err(NotServed::NoPoll);
     };
     let Some(wait) = ClockWait::new(alloc, poll, polls.wakers) else {
-        return Err(ServeFault::OutOfMemory);
+        return Err(NotServed::OutOfMemory);
     };
-    Ok(ClockPacer::new(rt, plan.tick_ms(), open_notes(rt, alloc)?, wait))
+    Ok(ClockPacer::new(rt, plan.tick_ms(), Notes::new(rt, alloc)?, wait))
 }
 
 /// What is opened for the first term.
@@ -198,22 +274,24 @@ fn open_ports<'a, R: Net + Log + Clock>(
     alloc: Global,
     polls: &mut Polls<'a>,
     plan: &Plan,
-) -> Result<Opened<'a, R>, ServeFault>
+) -> Result<Opened<'a, R>, NotServed>
     ensures ticks { IfOk result
         (λ opened. opened.pacer.ticks ≡ record { tick = plan.now.tick_ms * 1000000; from = None }) }
-    ensures silence { IfOk result
-        (λ opened. opened.console.port.settings.silence ≡ plan.now.silence) }
+    ensures stations { IfOk result
+        (λ opened. AreNewStations plan.now (carrier_numbers plan.now) opened.stations.items) }
+    ensures console { IfOk result (λ opened. IsNewConsole plan.now opened.console) }
 {
     let pacer = open_pacer(rt, alloc, polls, plan)?;
-    let stations = open_stations(rt, alloc, polls, plan)?;
-    let console = ConsoleStation {
-        link: ConsoleLink::new(),
-        port: open_port(rt, alloc, polls, plan, Whose::Console, plan.console_port())?,
-    };
+    let mut stations = Vec::new(alloc);
+    let port = open_listening(rt, alloc, polls, plan, &mut stations);
+    let (pacer, stations, port) = beside_list(pacer, stations, port)?;
     Ok(Opened {
         stations,
         pacer,
-        console,
+        console: ConsoleStation {
+            link: ConsoleLink::new(),
+            port,
+        },
     })
 }
 
@@ -225,36 +303,26 @@ pub fn open_service<'a, R: Net + Log + Clock>(
     polls: &mut Polls<'a>,
     plan: &Plan,
     radios: &[Address],
-) -> Result<SiteService<'a, R>, ServeFault>
-    ensures site { IfOk result (λ service. service.site
-        ≡ record { plan = plan.now; facts = facts_with (restored plan.now radios.now) }) }
-    ensures ticks { IfOk result
-        (λ service. service.pacer.ticks
-        ≡ record { tick = plan.now.tick_ms * 1000000; from = None }) }
+) -> Result<SiteService<'a, R>, NotServed>
+    ensures first { IfOk result (IsFirstService plan.now radios.now) }
+    // The first term does not fail for its stations or its limit.
+    ensures fits { IfOk result (λ service. Fits (start_of service)) }
 {
-    let Ok(site) = Site::with_registered(alloc, *plan, radios) else {
-        return Err(ServeFault::OutOfMemory);
-    };
-    match open_ports(rt, alloc, polls, plan) {
-        Ok(opened) => {
-            let Opened {
-                stations,
-                pacer,
-                console,
-            } = opened;
-            Ok(Service {
-                site,
-                stations,
-                pacer,
-                console,
-                spare: SpareLists::new(alloc),
-            })
-        }
-        Err(fault) => {
-            drop(site);
-            Err(fault)
-        }
-    }
+    plan.use_invariant();
+    let site = Site::with_registered(alloc, *plan, radios)?;
+    let (site, opened) = beside(site, open_ports(rt, alloc, polls, plan))?;
+    let Opened {
+        stations,
+        pacer,
+        console,
+    } = opened;
+    Ok(Service {
+        site,
+        stations,
+        pacer,
+        console,
+        spare: SpareLists::new(alloc),
+    })
 }
 
 /// Makes a poll for each port of the plan and for its clock, and the wakers of all. If the system refuses one, notes
@@ -263,14 +331,14 @@ pub fn open_wakers<R: Net + Log>(
     rt: &R,
     alloc: Global,
     plan: &Plan,
-) -> Result<(Wakers, Vec<Poll>), ServeFault> {
+) -> Result<(Wakers, Vec<Poll>), NotServed> {
     match open_polls(rt, alloc, plan.carrier().len() + 2) {
         Ok(opened) => Ok(opened),
         Err(PollFault::NoPoll(error)) => {
-            let mut notes = open_notes(rt, alloc)?;
+            let mut notes = Notes::new(rt, alloc)?;
             notes.cannot_poll(&error);
-            Err(ServeFault::NoPoll)
+            Err(NotServed::NoPoll)
         }
-        Err(PollFault::OutOfMemory) => Err(ServeFault::OutOfMemory),
+        Err(PollFault::OutOfMemory) => Err(NotServed::OutOfMemory),
     }
 }

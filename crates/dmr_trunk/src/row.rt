@@ -1,14 +1,14 @@
 //! A row of terms, as serving runs it: as many as were asked for, or without end. If there is no memory for a term, it
 //! is tried again. Meanwhile the records of earlier terms are handed to a store.
 
-ghost use Rattle.std.specs.Prelude.{◌≡◌, ◌↔◌, IfErr, IfOk, IsSome, IsTrue, OnOk, Some, option_map};
+ghost use Rattle.std.specs.Prelude.{◌≡◌, ◌↔◌, IfErr, IfOk, IsSome, IsTrue, OnOk, Some};
 ghost use Rattle.dmr_desk.specs.declared.fault.OpenFault.TheVariants.{OutOfMemory};
 ghost use Rattle.dmr_desk.specs.declared.fault.TermFault.TheVariants.{Open};
 ghost use Rattle.dmr_desk.specs.Refusing.{IsTermFault};
 ghost use Rattle.dmr_desk.specs.Service.{end_at, start_at};
 ghost use Rattle.dmr_desk.specs.Term.{IsTerm};
 ghost use Rattle.dmr_desk.specs.Terms.{Fits};
-ghost use Rattle.dmr_trunk.specs.Served.{HaveServed, HaveStoppedServing, terms_asked};
+ghost use Rattle.dmr_trunk.specs.Served.{HasServed, terms_asked};
 
 use crate::holding::{Keeping, Writer};
 use crate::keeping::{Waiting, go_on, hand_over_rest};
@@ -174,21 +174,8 @@ where
     O: Observer<Station<P, G>, T, ConsoleStation<C>> + Drop,
     K: Keeper + Send + Drop + 's,
     R: Log + Clock + Wait + Threads + Sync,
-    ensures run { IfOk result.result (λ next. HaveServed K.kept K.refuses
-        (start_at P.reported G.passed T.paced C.reported service.site.plan.term_entries service)
-        (terms_asked terms)
-        (start_at P.reported G.passed T.paced C.reported service.site.plan.term_entries next)
-        (O.seen observer) (O.seen result.observer)
-        (option_map (λ m. m.recorder.carried) books.entry.maker)
-        books.entry.keeping books.entry.waiting.outbox result.keeping) }
-    ensures fault { IfErr result.result (λ stopped. HaveStoppedServing K.kept K.refuses
-        (start_at P.reported G.passed T.paced C.reported service.site.plan.term_entries service)
-        (terms_asked terms) stopped.done stopped.fault
-        (O.seen observer) (O.seen result.observer)
-        (option_map (λ m. m.recorder.carried) books.entry.maker)
-        books.entry.keeping books.entry.waiting.outbox result.keeping) }
-    ensures memory { IfErr result.result (λ stopped. stopped.fault ≡ Open OutOfMemory
-        → stopped.done ≡ 0) }
+    ensures { HasServed P.reported G.passed T.paced C.reported O.seen K.kept K.refuses service
+        observer books.entry terms result }
 {
     let plan = *service.site.plan();
     let limit = plan.term_entries() as usize;
@@ -241,41 +228,15 @@ where
     O: Observer<Station<P, G>, T, ConsoleStation<C>> + Drop,
     K: Keeper + Send + Drop,
     R: Log + Clock + Wait + Threads + Sync,
-    ensures run { IfOk result.result (λ next. HaveServed K.kept K.refuses
-        (start_at P.reported G.passed T.paced C.reported service.site.plan.term_entries service)
-        (terms_asked terms)
-        (start_at P.reported G.passed T.paced C.reported service.site.plan.term_entries next)
-        (O.seen observer) (O.seen result.observer)
-        (option_map (λ m. m.recorder.carried) books.entry.maker)
-        books.entry.keeping books.entry.waiting.outbox result.keeping) }
-    ensures fault { IfErr result.result (λ stopped. HaveStoppedServing K.kept K.refuses
-        (start_at P.reported G.passed T.paced C.reported service.site.plan.term_entries service)
-        (terms_asked terms) stopped.done stopped.fault
-        (O.seen observer) (O.seen result.observer)
-        (option_map (λ m. m.recorder.carried) books.entry.maker)
-        books.entry.keeping books.entry.waiting.outbox result.keeping) }
-    ensures memory { IfErr result.result (λ stopped. stopped.fault ≡ Open OutOfMemory
-        → stopped.done ≡ 0) }
+    ensures { HasServed P.reported G.passed T.paced C.reported O.seen K.kept K.refuses service
+        observer books.entry terms result }
 {
     thread::scope(
         thread::scope_env(),
         rt,
         move |scope|
-            ensures run { IfOk result.result (λ next. HaveServed K.kept K.refuses
-                (start_at P.reported G.passed T.paced C.reported service.site.plan.term_entries service)
-                (terms_asked terms)
-                (start_at P.reported G.passed T.paced C.reported service.site.plan.term_entries next)
-                (O.seen observer) (O.seen result.observer)
-                (option_map (λ m. m.recorder.carried) books.entry.maker)
-                books.entry.keeping books.entry.waiting.outbox result.keeping) }
-            ensures fault { IfErr result.result (λ stopped. HaveStoppedServing K.kept K.refuses
-                (start_at P.reported G.passed T.paced C.reported service.site.plan.term_entries service)
-                (terms_asked terms) stopped.done stopped.fault
-                (O.seen observer) (O.seen result.observer)
-                (option_map (λ m. m.recorder.carried) books.entry.maker)
-                books.entry.keeping books.entry.waiting.outbox result.keeping) }
-            ensures memory { IfErr result.result (λ stopped. stopped.fault ≡ Open OutOfMemory
-                → stopped.done ≡ 0) }
+            ensures { HasServed P.reported G.passed T.paced C.reported O.seen K.kept K.refuses service
+                observer books.entry terms result }
         {
             serve_in(
                 rt, scope, written, &alloc, service, observer, books, notes, terms,
@@ -311,21 +272,8 @@ where
     O: Observer<Station<P, G>, T, ConsoleStation<C>> + Drop,
     K: Keeper + Send + Drop,
     R: Log + Clock + Wait + Threads + Sync,
-    ensures run { IfOk result.result (λ next. HaveServed K.kept K.refuses
-        (start_at P.reported G.passed T.paced C.reported service.site.plan.term_entries service)
-        (terms_asked terms)
-        (start_at P.reported G.passed T.paced C.reported service.site.plan.term_entries next)
-        (O.seen observer) (O.seen result.observer)
-        (option_map (λ m. m.recorder.carried) books.entry.maker)
-        books.entry.keeping books.entry.waiting.outbox result.keeping) }
-    ensures fault { IfErr result.result (λ stopped. HaveStoppedServing K.kept K.refuses
-        (start_at P.reported G.passed T.paced C.reported service.site.plan.term_entries service)
-        (terms_asked terms) stopped.done stopped.fault
-        (O.seen observer) (O.seen result.observer)
-        (option_map (λ m. m.recorder.carried) books.entry.maker)
-        books.entry.keeping books.entry.waiting.outbox result.keeping) }
-    ensures memory { IfErr result.result (λ stopped. stopped.fault ≡ Open OutOfMemory
-        → stopped.done ≡ 0) }
+    ensures { HasServed P.reported G.passed T.paced C.reported O.seen K.kept K.refuses service
+        observer books.entry terms result }
 {
     let written = AtomicBool::new(true);
     serve_beside(rt, &written, alloc, service, observer, books, notes, terms)

@@ -5,7 +5,8 @@ ghost use Rattle.std.specs.Prelude.{◌≡◌, [], ◌∷◌, None, Some, IfErr,
 ghost use Rattle.dmr_desk.specs.Terms.{Sees};
 ghost use Rattle.dmr_recording.specs.Events.{events_of};
 ghost use Rattle.dmr_recording.specs.Recordable.{AreRecordable, IsFirstFault, up_after_all};
-ghost use Rattle.dmr_trunk.specs.Scripts.{Appends, HasAppended, IsEnding, IsRefusal};
+ghost use Rattle.dmr_trunk.specs.Scripts.{Appends, BeginsRecording, HasAppended, IsEnding};
+ghost use Rattle.dmr_trunk.specs.Scripts.{IsRefusal};
 ghost use Rattle.dmr_trunk.specs.Scripts.{events_at_start, lines_of};
 
 use crate::notes::Notes;
@@ -66,12 +67,7 @@ impl<'a, W: Script, R: Log> Recording<'a, W, R> {
         script: W,
         notes: Notes<'a, R>,
     ) -> Recording<'a, W, R>
-        ensures plan { result.plan ≡ plan }
-        ensures up { result.up ≡ replicate 16 false }
-        ensures lines { result.ending ≡ None → Appends (W.appended script)
-            (lines_of plan (events_at_start plan radios.now)) (W.appended result.script) }
-        ensures ending { IfSome result.ending (IsEnding (W.refuses script) plan
-            (replicate 16 false) (events_at_start plan radios.now)) }
+        ensures { BeginsRecording W.appended W.refuses plan radios.now script result }
     {
         let mut recording = Recording {
             alloc,
@@ -81,10 +77,13 @@ impl<'a, W: Script, R: Log> Recording<'a, W, R> {
             ending: None,
             notes,
         };
-        if let Err(ending) = recording.append_restored(radios) {
-            recording.end(ending);
+        match recording.append_restored(radios) {
+            Ok(()) => recording,
+            Err(ending) => {
+                recording.end(ending);
+                recording
+            }
         }
-        recording
     }
 
     /// Appends the session in which radios register. Without radios it is empty. The error says why the recording ends.

@@ -1,17 +1,22 @@
 //! Serving: a site over TCP, term by term.
 
-ghost use Rattle.std.specs.Prelude.{◌≡◌, [], IfOk, None, option_map};
+ghost use Rattle.std.specs.Prelude.{◌≡◌, Err, IfErr, IfOk, IsOk, IsOkAnd, MatchResult, None};
 ghost use Rattle.dmr_keeper.specs.Carried.{starting_with};
-ghost use Rattle.dmr_trunk.specs.Stored.{carried_if_wanted};
+ghost use Rattle.dmr_trunk.specs.Faults.{IsServeFault};
+ghost use Rattle.dmr_trunk.specs.Scripts.{BeginsIfAsked};
+ghost use Rattle.dmr_trunk.specs.Served.{HasLeft, IsSiteServed};
+ghost use Rattle.dmr_trunk.specs.Stored.{AreNewBooks, carried_if_wanted};
+ghost use Rattle.std.specs.Prelude.{option_map};
 
 use crate::ends::Connections;
 use crate::holding::Keeping;
 use crate::keeping::Waiting;
+use crate::not_served::NotServed;
 use crate::notes::Notes;
-use crate::opening::{CarrierAt, ConsoleAt, SiteService, open_notes, open_service, open_wakers};
+use crate::opening::{CarrierAt, ConsoleAt, SiteService, beside, open_service, open_wakers};
 use crate::pacer::ClockPacer;
 use crate::recorded::RecordMaker;
-use crate::row::{Books, Ran, serve_service};
+use crate::row::{Books, Ran, Stopped, serve_service};
 use crate::script::{RecordingFile, Script};
 use crate::scripted::{Recording, Scripted};
 use crate::term_log::TermLog;
@@ -21,7 +26,7 @@ use dmr_core::Site;
 use dmr_desk::{ConsoleStation, Observer, Pacer, Service, Station, Term};
 use dmr_keeper::{Carried, Forget, Keeper, Outbox, Recorder, TermCounts};
 use dmr_link::Gate;
-use dmr_pdu::{Address, OutOfMemory};
+use dmr_pdu::Address;
 use dmr_plan::Plan;
 use dmr_wire::Port;
 use log::Log;
@@ -68,18 +73,53 @@ fn make_records<'a, R: Net + Log + Clock + Wait>(
     rt: &'a R,
     alloc: Global,
     site: &Site,
-) -> Result<RecordMaker<'a, R>, ServeFault>
+) -> Result<RecordMaker<'a, R>, NotServed>
     ensures { IfOk result
         (λ maker. maker.recorder.carried ≡ starting_with site.now.facts.registered) }
 {
-    match Carried::with_registered(alloc, site.registered()) {
-        Ok(carried) => {
-            let recorder = Recorder::new(carried);
-            let notes = open_notes(rt, alloc)?;
-            Ok(RecordMaker::new(rt, alloc, recorder, notes))
-        }
-        Err(OutOfMemory) => Err(ServeFault::OutOfMemory),
+    let carried = Carried::with_registered(alloc, site.registered())?;
+    let (carried, notes) = beside(carried, Notes::new(rt, alloc))?;
+    Ok(RecordMaker::new(rt, alloc, Recorder::new(carried), notes))
+}
+
+/// What makes the records of a site's terms, if the store asks for any.
+fn maker_if_wanted<'a, K: Keeper, R: Net + Log + Clock + Wait>(
+    rt: &'a R,
+    alloc: Global,
+    site: &Site,
+    keeper: &K,
+) -> Result<Option<RecordMaker<'a, R>>, NotServed>
+    ensures { IfOk result (λ maker. option_map (λ m. m.recorder.carried) maker
+        ≡ carried_if_wanted (K.wants keeper.now) site.now.facts.registered) }
+{
+    if keeper.wants_records() {
+        Ok(Some(make_records(rt, alloc, site)?))
+    } else {
+        Ok(None)
     }
+}
+
+/// What becomes of the records of a site's terms: they are made if the store asks for any, and none wait yet.
+fn open_books<'a, K: Keeper + Drop, R: Net + Log + Clock + Wait>(
+    rt: &'a R,
+    alloc: Global,
+    site: &Site,
+    keeper: K,
+) -> Result<Books<'a, K, R>, NotServed>
+    ensures { IfOk result (AreNewBooks K.wants site.now.facts.registered keeper) }
+{
+    let waiting = Outbox::new(alloc)?;
+    let outbox = Outbox::new(alloc)?;
+    let maker = maker_if_wanted(rt, alloc, site, &keeper)?;
+    Ok(Books {
+        maker,
+        waiting: Waiting::new(waiting),
+        keeping: Keeping {
+            keeper,
+            outbox,
+            fault: None,
+        },
+    })
 }
 
 /// Begins the recording of a site, if there is a script.
@@ -88,10 +128,13 @@ fn begin_recording<'a, W: Script + Drop, R: Net + Log>(
     alloc: Global,
     site: &Site,
     script: Option<W>,
-) -> Result<Option<Recording<'a, W, R>>, ServeFault> {
+) -> Result<Option<Recording<'a, W, R>>, NotServed>
+    ensures { IfOk result (BeginsIfAsked W.appended W.refuses site.now.plan
+        site.now.facts.registered script) }
+{
     match script {
         Some(script) => {
-            let notes = open_notes(rt, alloc)?;
+            let notes = Notes::new(rt, alloc)?;
             let plan = *site.plan();
             Ok(Some(Recording::begin(alloc, plan, site.registered(), script, notes)))
         }
@@ -109,107 +152,114 @@ fn observe<'a, W, R>(
     wakers: &'a Wakers,
     service: &SiteService<'a, R>,
     script: Option<W>,
-) -> Result<LogAndScript<'a, W, R>, ServeFault>
+) -> Result<LogAndScript<'a, W, R>, NotServed>
 where
     W: Script + Drop,
     R: Net + Log + Clock + Wait,
+    ensures { IfOk result (λ log. BeginsIfAsked W.appended W.refuses service.now.site.plan
+        service.now.site.facts.registered script log.recording) }
 {
-    let mut log = TermLog::new(rt, open_notes(rt, alloc)?, wakers);
+    let mut log = TermLog::new(rt, Notes::new(rt, alloc)?, wakers);
     note_listening(service, &mut log);
-    let recording = begin_recording(rt, alloc, &service.site, script)?;
+    let recording = begin_recording(rt, alloc, &service.site, script);
+    let (log, recording) = beside(log, recording)?;
     Ok(Scripted {
         observer: log,
         recording,
     })
 }
 
-/// Allocates room for the records of terms that wait for a store. The error is `OutOfMemory`.
-fn open_outbox(alloc: Global) -> Result<Outbox, ServeFault>
-    ensures { IfOk result (λ outbox. outbox ≡ []) }
-{
-    match Outbox::new(alloc) {
-        Ok(outbox) => Ok(outbox),
-        Err(OutOfMemory) => Err(ServeFault::OutOfMemory),
-    }
-}
-
-/// What makes the records of a site's terms, if the store asks for any.
-fn maker_if_wanted<'a, K: Keeper, R: Net + Log + Clock + Wait>(
+/// Opens what the terms need in addition to their service: the books, and the observer.
+fn open_rest<'a, K, W, R>(
     rt: &'a R,
     alloc: Global,
-    site: &Site,
-    keeper: &K,
-) -> Result<Option<RecordMaker<'a, R>>, ServeFault>
-    ensures { IfOk result (λ maker. option_map (λ m. m.recorder.carried) maker
-        ≡ carried_if_wanted (K.wants keeper.now) site.now.facts.registered) }
-{
-    if keeper.wants_records() {
-        Ok(Some(make_records(rt, alloc, site)?))
-    } else {
-        Ok(None)
-    }
-}
-
-/// What becomes of the records of a site's terms: they are made if the store asks for any, and none wait yet.
-fn open_books<'a, K: Keeper + Drop, R: Net + Log + Clock + Wait>(
-    rt: &'a R,
-    alloc: Global,
-    site: &Site,
+    wakers: &'a Wakers,
+    service: &SiteService<'a, R>,
     keeper: K,
-) -> Result<Books<'a, K, R>, ServeFault>
-    ensures waiting { IfOk result (λ books. (books.keeping.outbox ≡ []) × (books.waiting.outbox ≡ [])) }
-    ensures keeper { IfOk result (λ books. books.keeping.keeper ≡ keeper) }
-    ensures carried { IfOk result (λ books. option_map (λ m. m.recorder.carried) books.maker
-        ≡ carried_if_wanted (K.wants keeper) site.now.facts.registered) }
+    script: Option<W>,
+) -> Result<(Books<'a, K, R>, LogAndScript<'a, W, R>), NotServed>
+where
+    K: Keeper + Drop,
+    W: Script + Drop,
+    R: Net + Log + Clock + Wait,
+    ensures books { IfOk result
+        (λ rest. AreNewBooks K.wants service.now.site.facts.registered keeper rest.0) }
+    ensures recording { IfOk result (λ rest. BeginsIfAsked W.appended W.refuses
+        service.now.site.plan service.now.site.facts.registered script rest.1.recording) }
 {
-    let maker = maker_if_wanted(rt, alloc, site, &keeper)?;
-    Ok(Books {
-        maker,
-        waiting: Waiting::new(open_outbox(alloc)?),
-        keeping: Keeping {
-            keeper,
-            outbox: open_outbox(alloc)?,
-            fault: None,
-        },
-    })
+    let books = open_books(rt, alloc, &service.site, keeper)?;
+    beside(books, observe(rt, alloc, wakers, service, script))
 }
 
-/// Drops what a row of terms left, and notes why they stopped, if they did. It is generic, since a function that owns a
-/// service, and can end while it does, is expensive to prove; a call of this one is cheap.
-fn end_service<S: Drop, O: Drop, K: Drop, R: Log>(
+/// What remains when serving has ended.
+#[derive(Drop)]
+pub struct Remains<K> {
+    /// Why the terms stopped, if one of them failed.
+    pub result: Result<(), Stopped>,
+    /// The store, with the records that it refused.
+    pub keeping: Keeping<K>,
+}
+
+impl<K: Drop> Remains<K> {
+    /// Returns the fault of the term that failed, if one did. Drops the store.
+    pub fn into_result(self) -> Result<(), ServeFault>
+        ensures { MatchResult self.result (λ _. IsOk result)
+            (λ stopped. result ≡ Err (ServeFault.Term stopped.fault)) }
+    {
+        let Remains { result, keeping } = self;
+        drop(keeping);
+        match result {
+            Ok(()) => Ok(()),
+            Err(stopped) => Err(ServeFault::Term(stopped.fault)),
+        }
+    }
+}
+
+/// Drops what a row of terms left, except for the store, and notes why they stopped, if they did. It is generic, since a
+/// function that drops a service is expensive to prove.
+fn end_service<S: Drop, O: Drop, K, R: Log>(
     ran: Ran<S, O, K>,
     notes: &mut Notes<'_, R>,
-) -> Result<(), ServeFault> {
+) -> Remains<K>
+    ensures keeping { result.keeping ≡ ran.keeping }
+    ensures ended { MatchResult ran.result (λ _. IsOk result.result)
+        (λ stopped. result.result ≡ Err stopped) }
+{
     let Ran {
         result,
         observer,
         keeping,
     } = ran;
     drop(observer);
-    drop(keeping);
     match result {
         Ok(last) => {
             drop(last);
-            Ok(())
+            Remains {
+                result: Ok(()),
+                keeping,
+            }
         }
         Err(stopped) => {
             notes.note_stopped(stopped.done);
-            Err(ServeFault::Term(stopped.fault))
+            Remains {
+                result: Err(stopped),
+                keeping,
+            }
         }
     }
 }
 
-/// Runs the terms of a service, if its books and the observer of its terms were made; otherwise returns the first fault.
-/// It is generic in what a service holds, for the same reason.
+/// Runs the terms of a service, if the rest of what they need was opened, and drops what they left, except for the store. It
+/// is generic in what a service holds: a function that owns a service, and can end while it does, is expensive to prove. A
+/// call of this one is cheap.
 fn serve_opened<'a, P, G, T, C, O, K, R>(
     rt: &R,
     alloc: Global,
     service: Service<P, G, T, C>,
-    books: Result<Books<'a, K, R>, ServeFault>,
-    observer: Result<O, ServeFault>,
+    rest: Result<(Books<'a, K, R>, O), NotServed>,
     notes: &mut Notes<'a, R>,
     terms: u32,
-) -> Result<(), ServeFault>
+) -> Result<Remains<K>, NotServed>
 where
     P: Port + Send + Drop,
     G: Gate + Send + Drop,
@@ -218,22 +268,16 @@ where
     O: Observer<Station<P, G>, T, ConsoleStation<C>> + Drop,
     K: Keeper + Send + Drop,
     R: Log + Clock + Wait + Threads + Sync,
+    ensures { IfOk result (λ left. IsOkAnd rest.entry (λ r. HasLeft P.reported G.passed T.paced
+        C.reported O.seen K.kept K.refuses service r.1 r.0 terms left)) }
 {
-    match books {
-        Ok(books) => match observer {
-            Ok(observer) => {
-                let ran = serve_service(rt, alloc, service, observer, books, notes, terms);
-                end_service(ran, notes)
-            }
-            Err(fault) => {
-                drop(service);
-                drop(books);
-                Err(fault)
-            }
-        },
+    match rest {
+        Ok((books, observer)) => {
+            let ran = serve_service(rt, alloc, service, observer, books, notes, terms);
+            Ok(end_service(ran, notes))
+        }
         Err(fault) => {
             drop(service);
-            drop(observer);
             Err(fault)
         }
     }
@@ -249,18 +293,18 @@ fn serve_woken<'a, K, W, R>(
     keeper: K,
     radios: &[Address],
     script: Option<W>,
-) -> Result<(), ServeFault>
+) -> Result<Remains<K>, NotServed>
 where
     K: Keeper + Send + Drop,
     W: Script + Drop,
     R: Net + Log + Clock + Wait + Threads + Sync,
+    ensures { IfOk result (IsSiteServed R K.kept K.refuses K.wants plan.now radios.now keeper terms) }
 {
-    let mut notes = open_notes(rt, alloc)?;
+    let mut notes = Notes::new(rt, alloc)?;
     match open_service(rt, alloc, &mut polls, plan, radios) {
         Ok(service) => {
-            let books = open_books(rt, alloc, &service.site, keeper);
-            let observer = observe(rt, alloc, polls.wakers, &service, script);
-            serve_opened(rt, alloc, service, books, observer, &mut notes, terms)
+            let rest = open_rest(rt, alloc, polls.wakers, &service, keeper, script);
+            serve_opened(rt, alloc, service, rest, &mut notes, terms)
         }
         Err(fault) => Err(fault),
     }
@@ -270,7 +314,7 @@ where
 /// those of `radios` are registered that the plan lists, in their order; after a restart these are the ones that the
 /// store has. A store that fails does not stop serving: its fault is noted, and the records wait for the next term.
 /// They are lost only while those of 1,000 later terms wait. If there is a script, each term's journal is appended to
-/// it. If that fails, the recording ends, and it is noted why.
+/// it. If that fails, the recording ends, and it is noted why. On an error nothing was served, and the store is lost.
 pub fn serve_kept<K, W, R>(
     rt: &R,
     alloc: Global,
@@ -279,11 +323,12 @@ pub fn serve_kept<K, W, R>(
     keeper: K,
     radios: &[Address],
     script: Option<W>,
-) -> Result<(), ServeFault>
+) -> Result<Remains<K>, NotServed>
 where
     K: Keeper + Send + Drop,
     W: Script + Drop,
     R: Net + Log + Clock + Wait + Threads + Sync,
+    ensures { IfOk result (IsSiteServed R K.kept K.refuses K.wants plan radios.now keeper terms) }
 {
     let (wakers, polls) = open_wakers(rt, alloc, &plan)?;
     let polls = Polls {
@@ -303,7 +348,10 @@ pub fn serve<R: Net + Log + Clock + Wait + Threads + Sync>(
     alloc: Global,
     plan: Plan,
     terms: u32,
-) -> Result<(), ServeFault> {
+) -> Result<(), ServeFault>
+    // No fault says that stations, a limit or actors do not fit, or that a seat is missing.
+    ensures { IfErr result IsServeFault }
+{
     let script: Option<RecordingFile<'_>> = None;
-    serve_kept(rt, alloc, plan, terms, Forget, &[], script)
+    serve_kept(rt, alloc, plan, terms, Forget, &[], script)?.into_result()
 }

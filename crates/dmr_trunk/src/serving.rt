@@ -1,14 +1,15 @@
 //! Serving the site of a site file: the file, and the exit statuses of faults.
 
-ghost use Rattle.std.specs.Prelude.{◌≡◌, IfOk, option_map};
+ghost use Rattle.std.specs.Prelude.{◌≡◌, IfOk, IfSome, IsSomeAnd, option_map};
 ghost use Rattle.dmr_trunk.specs.Replay.{IsPlanned, IsStatus};
+ghost use Rattle.dmr_trunk.specs.Served.{IsServedAgain};
 
 use crate::lock::InUse;
+use crate::not_served::NotServed;
 use crate::notes::Notes;
-use crate::opening::open_notes;
 use crate::restart::read_registered;
 use crate::script::Script;
-use crate::serve::{serve, serve_kept};
+use crate::serve::{Remains, serve, serve_kept};
 use crate::store::{Asked, Kept, STATE_DIRECTORY, Store};
 use dmr_command::ServeFault;
 use dmr_keeper::Forget;
@@ -41,15 +42,68 @@ fn note_start<'a, R: Net + Log>(
     alloc: Global,
     site_name: &str,
     plan: &Plan,
-) -> Result<Notes<'a, R>, ServeFault> {
-    let mut notes = open_notes(rt, alloc)?;
+) -> Result<Notes<'a, R>, NotServed> {
+    let mut notes = Notes::new(rt, alloc)?;
     notes.note_start(site_name, plan.carrier().len());
     Ok(notes)
 }
 
-/// Notes the start, and why the folder of the records is not locked, if it is not. Then serves the site of a plan. If
-/// there is a store, it keeps the records, and the radios that were registered are so again. If there is a script, the
-/// site is recorded to it.
+/// Asks a store which radios were registered before. Then serves the site of a plan with these, and with that store
+/// ([`serve_kept`]).
+fn serve_again<K, F, R>(
+    rt: &R,
+    alloc: Global,
+    plan: Plan,
+    terms: u32,
+    mut store: K,
+    script: Option<F>,
+    notes: &mut Notes<'_, R>,
+) -> Result<Remains<K>, NotServed>
+where
+    K: Store + Send + Drop,
+    F: Script + Drop,
+    R: Net + Log + Clock + Wait + Threads + Sync,
+    ensures { IfOk result (IsServedAgain R K.reads K.cannot_read K.kept K.refuses K.wants plan
+        store terms) }
+{
+    let radios = read_registered(rt, alloc, &mut store, notes);
+    serve_kept(rt, alloc, plan, terms, store, radios.as_slice(), script)
+}
+
+/// Serves the site of a plan. If there is a store, it keeps the records, and the radios that were registered are so again
+/// ([`serve_again`]); the store is returned. If there is a script, the site is recorded to it.
+fn serve_asked<K, F, R>(
+    rt: &R,
+    alloc: Global,
+    plan: Plan,
+    terms: u32,
+    store: Option<K>,
+    script: Option<F>,
+    notes: &mut Notes<'_, R>,
+) -> Result<Option<Remains<K>>, ServeFault>
+where
+    K: Store + Send + Drop,
+    F: Script + Drop,
+    R: Net + Log + Clock + Wait + Threads + Sync,
+    ensures { IfOk result (λ left. IfSome store (λ store. IsSomeAnd left
+        (IsServedAgain R K.reads K.cannot_read K.kept K.refuses K.wants plan store terms))) }
+{
+    match store {
+        Some(store) => { Ok(Some(serve_again(rt, alloc, plan, terms, store, script, notes)?)) }
+        None => {
+            match script {
+                Some(script) => {
+                    serve_kept(rt, alloc, plan, terms, Forget, &[], Some(script))?.into_result()?;
+                }
+                None => serve(rt, alloc, plan, terms)?,
+            }
+            Ok(None)
+        }
+    }
+}
+
+/// Notes the start, and why the folder of the records is not locked, if it is not. Then serves the site of a plan
+/// ([`serve_asked`]).
 fn serve_noted<K, F, R>(
     rt: &R,
     alloc: Global,
@@ -69,15 +123,9 @@ where
     if let Some(error) = &unlocked {
         notes.not_locked(error);
     }
-    match store {
-        Some(mut store) => {
-            let radios = read_registered(rt, alloc, &mut store, &mut notes);
-            serve_kept(rt, alloc, plan, terms, store, radios.as_slice(), script)
-        }
-        None => match script {
-            Some(script) => serve_kept(rt, alloc, plan, terms, Forget, &[], Some(script)),
-            None => serve(rt, alloc, plan, terms),
-        },
+    match serve_asked(rt, alloc, plan, terms, store, script, &mut notes)? {
+        Some(left) => left.into_result(),
+        None => Ok(()),
     }
 }
 

@@ -1,9 +1,10 @@
 //! The store of records: a file in the folder for the program's state, if the environment names one. Another file there
 //! is the folder's lock.
 
-ghost use Rattle.std.specs.Prelude.{ℕ, List, IfErr, IfOk};
+ghost use Rattle.std.specs.Prelude.{◌≡◌, ℕ, List, IfErr, IfOk, None, Some};
 ghost use Rattle.dmr_keeper.specs.declared.keeper.KeepFault.{KeepFault as AFault};
 ghost use Rattle.dmr_records.specs.Reached.{AreReadBack, CannotRead};
+ghost use Rattle.dmr_trunk.specs.Restart.{named_in, unnamed_in};
 
 use crate::lock::FolderLock;
 use crate::script::RECORD;
@@ -73,7 +74,11 @@ pub enum Stored<K> {
 
 impl<K> Stored<K> {
     /// Returns the store if one is named. If its name is not UTF-8, the error is the variable that names it.
-    fn named_by(self, variable: &'static str) -> Result<Option<K>, &'static str> {
+    fn named_by(self, variable: &'static str) -> Result<Option<K>, &'static str>
+        ensures named { IfOk result (λ store. named_in self ≡ Some store) }
+        ensures unnamed { IfErr result (λ name. (named_in self ≡ None)
+            × (name.now ≡ variable.now)) }
+    {
         match self {
             Stored::Nowhere => Ok(None),
             Stored::In(store) => Ok(Some(store)),
@@ -107,7 +112,13 @@ pub struct Asked<'a, K, W> {
 impl<'a, K: Drop, W: Drop> Kept<'a, K, W> {
     /// Returns the store and the script that are named. If the name of one is not UTF-8, the error is the variable that
     /// names it; the script's comes first.
-    pub fn asked_for(self) -> Result<Asked<'a, K, W>, &'static str> {
+    pub fn asked_for(self) -> Result<Asked<'a, K, W>, &'static str>
+        ensures store { IfOk result (λ asked. named_in self.entry.records ≡ Some asked.store) }
+        ensures script { IfOk result (λ asked. named_in self.entry.recording ≡ Some asked.script) }
+        ensures lock { IfOk result (λ asked. asked.lock ≡ self.entry.lock) }
+        ensures unnamed { IfErr result (λ name. unnamed_in STATE_DIRECTORY.now RECORD.now
+            self.entry.records self.entry.recording ≡ Some name.now) }
+    {
         let Kept {
             records,
             recording,

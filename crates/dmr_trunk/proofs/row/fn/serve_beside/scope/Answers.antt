@@ -18,4 +18,4 @@ pub serve_in-requires-send-K : goal.serve_in-requires-send-K
 serve_in-requires-send-K g c κs within = let sends : IsSend (param 5 g.row.K) = c.requires-raw.1.1.1.1.1.1.1.1.1.1.1.0 in param_send _ _ (given_send 5 _ g.row.K sends)
 
 pub returns : goal.returns
-returns g c = record { run = c.serve_in.ensures.run; fault = c.serve_in.ensures.fault; memory = c.serve_in.ensures.memory }
+returns g c = c.serve_in.ensures

@@ -9,6 +9,7 @@ from dataclasses import dataclass, field
 from temzaar import code, pdus
 from temzaar.frames import DONE, POLL, FrameType, burst_frame, hello, rx, welcome
 from temzaar.sitefile import Site
+from temzaar.sitekeys import SITE_KEYS
 from tests.support import SITES, TOP
 
 FOLDER = TOP / "cases"
@@ -159,13 +160,16 @@ class Changes:
 
     def text(self) -> str:
         """The changed site file."""
-        site = Site(str(SITES / f"{self.name}.toml"))
+        site, others = Site(str(SITES / f"{self.name}.toml")), ""
         for line in self.lines:
-            if line.startswith("without "):
-                del site.plan[line.removeprefix("without ")]
+            how, _, said = line.partition(" ")
+            if how == "without":
+                del site.plan[said]
+            elif (values := tomllib.loads(said)).keys() <= SITE_KEYS.keys():
+                site.plan.update(values)
             else:
-                site.plan.update(tomllib.loads(line.removeprefix("with ")))
-        return site.text()
+                others += f"{said}\n"
+        return others + site.text()
 
 
 def numbers_of(words: list[str]) -> list[int]:

@@ -110,20 +110,13 @@ def random_pdu(name: str, draws: random.Random) -> bytes:
     return pdus.write(name, **values)
 
 
-def listed_reasons() -> list[int]:
-    """The reasons row by row of the document's table, which has two columns of them."""
-    reasons = sorted(pdus.REASONS)
-    half = len(reasons) // 2
-    return [reason for row in zip(reasons[:half], reasons[half:], strict=True) for reason in row]
-
-
 def make_traffic(draws: random.Random, each: int) -> Traffic:
     """A script of two carriers: `each` bursts of each PDU with up to three bits flipped, each reason, each kind, noise,
     and the words of HEARD."""
     known: dict[bytes, Flipped] = {}
     lines = ["open 0", "bytes 0 010401000001"]
     drawn = [random_pdu(name, draws) for name in pdus.LAYOUTS for _ in range(each)]
-    drawn += [pdus.write("C_ACKD", reason=reason, target=1001, additional=1002) for reason in listed_reasons()]
+    drawn += [pdus.write("C_ACKD", reason=reason, target=1001, additional=1002) for reason in sorted(pdus.REASONS)]
     drawn += [pdus.write("C_RAND", kind=kind, target=91, source=1001) for kind in pdus.KINDS]
     for octets in drawn:
         places = draws.sample(range(code.PLACES), draws.randrange(MOST_FLIPS + 1))

@@ -181,7 +181,8 @@ install: build/dmr_trunk build/dmr_decode ## the programs, tools, headers for ba
 	install -m 644 station/README.md station/*.c station/*.py $(DESTDIR)$(DOC)/examples/station
 	install -D -m 644 deploy/wireshark/dmr_link.lua $(DESTDIR)$(WIRESHARK_PLUGINS)/dmr_link.lua
 	ln -sf ../man8/dmr_trunk.8 $(DESTDIR)$(MAN)/man1/dmr_trunk.1
-	install -D -m 644 deploy/completion/dmr.bash $(DESTDIR)$(COMPLETIONS)/dmr_trunk
+	install -d $(DESTDIR)$(COMPLETIONS)
+	python3 ci/write-manual --completion >$(DESTDIR)$(COMPLETIONS)/dmr_trunk && chmod 644 $(DESTDIR)$(COMPLETIONS)/dmr_trunk
 	for command in decode siteview timeline callbook report archive carriers conform check restart hub console; do ln -sf dmr_trunk $(DESTDIR)$(COMPLETIONS)/dmr_$$command || exit; done
 	for unit in dmr_trunk dmr_hub dmr_trunk@ dmr_hub@; do sed 's|@PREFIX@|$(PREFIX)|' deploy/$$unit.service >$(DESTDIR)$(PREFIX)/lib/systemd/system/$$unit.service || exit; done
 	sed 's|@PREFIX@|$(PREFIX)|' deploy/dmr_archive.service >$(DESTDIR)$(PREFIX)/lib/systemd/system/dmr_archive.service

@@ -16,26 +16,9 @@ from plans import plan_of  # noqa: E402  (the path comes first)
 from temzaar import code, frames, pdus  # noqa: E402  (the path comes first)
 
 RADIOS, GROUPS, REGI = 60, 16, 0xFFFEC6
-# The site of the loads, as crates/test_program and site_bench.c have it.
-SITE = """system = 0x0A51
-regi = 0xFFFEC6
-tsi = 0xFFFECA
-leave_bit = 0
-hang = 50
-maximum = 100
-ahoy_wait = 8
-ahoy_tries = 4
-grant_copies = 2
-clear_copies = 2
-backoff_low = 2
-backoff_high = 12
-tick_ms = 60
-silence = 50
-console_port = 7100
-radios = [[1, 5000]]
-groups = [1, 2, 3, 4, 5, 6, 7, 8, 9, 10, 11, 12, 13, 14, 15, 16]
-control = 0
-"""
+LOADS = (TOP / "crates" / "test_program" / "src" / "bench" / "load.rt").read_text(encoding="utf-8")
+# The keys of the site of the loads, without its carriers.
+SITE = LOADS.partition('const SITE: &str = "\\\n')[2].partition('";')[0]
 
 
 def lpcn_of(carrier: int) -> int:

@@ -9,8 +9,8 @@
 #include <stddef.h>
 #include <stdio.h>
 
-/* Keys of a site file that the reference does not need, and their values. */
-enum { TICK_MS = 60, SILENCE = 100, CONSOLE_PORT = 7100 };
+/* The port of carrier 0 in a site file. */
+enum { FIRST_PORT = 7101 };
 
 /* A key whose value is a number, and its place in a plan. */
 typedef struct {
@@ -29,12 +29,9 @@ static inline int *value_of(Plan *plan, const PlanKey *key) { return (int *)((ch
 
 static inline void write_key(const char *key, int value, FILE *file) { fprintf(file, "%s = %d\n", key, value); }
 
-/* Writes the site file of a plan. */
+/* Writes the keys of a plan as a site file, which lacks those that no rule here asks for. */
 static inline void write_site_file(Plan *plan, FILE *file) {
     for (int i = 0; i < PLAN_KEY_COUNT; i++) write_key(PLAN_KEYS[i].name, *value_of(plan, &PLAN_KEYS[i]), file);
-    write_key("tick_ms", TICK_MS, file);
-    write_key("silence", SILENCE, file);
-    write_key("console_port", CONSOLE_PORT, file);
     fputs("radios = [", file);
     for (int i = 0; i < plan->radio_ranges; i++)
         fprintf(file, "%s[%u, %u]", i ? ", " : "", (unsigned)plan->radios[i].first, (unsigned)plan->radios[i].last);
@@ -46,7 +43,7 @@ static inline void write_site_file(Plan *plan, FILE *file) {
         fputs("[[carrier]]\n", file);
         write_key("number", carrier, file);
         write_key("lpcn", plan->lpcn[carrier], file);
-        write_key("port", CONSOLE_PORT + 1 + carrier, file);
+        write_key("port", FIRST_PORT + carrier, file);
     }
 }
 

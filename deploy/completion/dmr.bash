@@ -1,21 +1,11 @@
-# Completion for bash of the words that the commands of this package take. bash-completion loads it by the name of a command; by hand: `. dmr.bash`.
+# Completion for bash of the words that the commands of this package take. bash-completion loads it by the name of a command. `ci/write-manual --completion`
+# prints it with what `@` stands for: the options of commands by their help, and the words of the console.
 
 # Prints the options of a command.
 _dmr_options() {
     case $1 in
-        dmr_trunk) echo --site --script --serve --terms --version --help ;;
         dmr_decode) echo --fields --site --help ;;
-        dmr_siteview) echo --site --hub --console --name --names --once --every --version --help ;;
-        dmr_timeline) echo --site --script --printed --program --decoder --out --records --start --from --to --page --calls --names --version --help ;;
-        dmr_callbook) echo --records --format --radio --group --carrier --cause --from --to --last --names --seconds --version --help ;;
-        dmr_report) echo --records --from --to --limit --slots --site --names --out --format --seconds --version --help ;;
-        dmr_archive) echo --records --folder --older-days --keep-days --seconds --version --help ;;
-        dmr_carriers) echo --site --program --pid --port --carriers --link-version --radios --seconds --polls --fast --seed --faults --troubles --version --help ;;
-        dmr_conform) echo --site --program --link-version --row --wait --json --version --help ;;
-        dmr_check) echo --names --explain --strict --json --link-version --controller --no-controller --plan --radios --calls-an-hour --seconds --wait --share --version --help ;;
-        dmr_restart) echo --site --records --hub --controller --command --within --anyway --now --back --dry-run --version --help ;;
-        dmr_hub) echo --config --records --names --check --version --help ;;
-        dmr_console) echo --socket --tcp --seconds --version --help ;;
+        @options
     esac
 }
 
@@ -23,7 +13,7 @@ _dmr_options() {
 _dmr_words() {
     case $1 in
         dmr_decode) [ "$2" -eq 1 ] && echo carrier site word pdu replay script journal write ;;
-        dmr_console) echo status radios calls lines slots drop end move stay help history names events acknowledge who ;;
+        dmr_console) echo @console ;;
     esac
 }
 

@@ -3,15 +3,43 @@ import socket
 import time
 from collections.abc import Container
 from dataclasses import dataclass
+from typing import NamedTuple
 
 from temzaar.faults import ToolFault, reason_of
 from temzaar.printable import printable
 
-# Commands whose reply ends with a line `end`, unless it is an error.
-LISTS = ("radios", "calls", "lines", "slots")
-# Commands that change nothing, and those that change the site.
-QUESTIONS = ("status", *LISTS)
-CHANGES = ("drop", "end", "move", "stay")
+
+class Command(NamedTuple):
+    """A command: its words, with a capital letter for each number, and what it does; whether it changes something, and whether its reply is a list."""
+    words: str
+    about: str
+    changes: bool = False
+    is_list: bool = False
+
+    @property
+    def name(self) -> str:
+        """The first of its words."""
+        return self.words.split()[0]
+
+
+# The commands of the controller, in the order of docs/FORMATS.md.
+COMMANDS = (
+    Command("status", "counts, and what a quiet control slot sends"),
+    Command("radios N", "16 registered radios, from radio N on", is_list=True),
+    Command("calls C", "the calls on carrier C", is_list=True),
+    Command("lines N", "16 requests that wait for a slot, from the Nth on", is_list=True),
+    Command("slots", "the state of each slot", is_list=True),
+    Command("drop R", "removes the registration of radio R", changes=True),
+    Command("end C S", "ends the call on slot S of carrier C", changes=True),
+    Command("move L", "sends radios to channel L, until stay", changes=True),
+    Command("stay", "sends radios away no longer", changes=True),
+)
+# What the letters of those that change the site are called, as columns of the records.
+COLUMNS = {"R": "radio", "C": "carrier", "S": "slot", "L": "channel"}
+# Commands whose reply ends with a line `end`, unless it is an error; those that change nothing; and those that change the site.
+LISTS = tuple(it.name for it in COMMANDS if it.is_list)
+QUESTIONS = tuple(it.name for it in COMMANDS if not it.changes)
+CHANGES = tuple(it.name for it in COMMANDS if it.changes)
 # How many octets a line may have before its LF, and what the controller answers to a longer one and to one that is not a command.
 LONGEST_LINE = 80
 TOO_LONG, UNKNOWN = b"error line too long\n", b"error unknown command\n"

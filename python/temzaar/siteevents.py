@@ -8,8 +8,8 @@ from collections.abc import Iterator
 from dataclasses import dataclass, replace
 from enum import StrEnum
 
-from temzaar import pdus
-from temzaar.console import are_numbers
+from temzaar import console, pdus
+from temzaar.console import COLUMNS, are_numbers
 from temzaar.moments import LAST_MS
 from temzaar.names import NO_NAMES, Names, named
 from temzaar.picture import LAST_RADIO
@@ -46,9 +46,9 @@ MOST_REPLY = 40
 NEED_ACKNOWLEDGEMENT = frozenset({
     EventKind.CONTROL_LOST, EventKind.CARRIER_LOST, EventKind.NO_POLLS, EventKind.CONTROLLER_AWAY, EventKind.CONTROLLER_STARTED, EventKind.RECORDS_FAILED,
     EventKind.UNRECORDED, EventKind.PAST_HUB})
-# The kinds of `events` that are about a carrier, and those of commands: each with its line.
+# The kinds of `events` that are about a carrier, and those of commands.
 CARRIERS = {"was_lost": EventKind.CARRIER_LOST, "came_up": EventKind.CARRIER_BACK}
-COMMANDS = {"drop_command": "drop {radio}", "end_command": "end {carrier} {slot}", "move_command": "move {channel}", "stay_command": "stay"}
+COMMANDS = {f"{it.name}_command": it for it in console.COMMANDS if it.changes}
 # The texts of events. Others have their detail.
 TEXTS = {
     EventKind.CONTROL_LOST: "no control channel: carrier {0.carrier} was lost, and the site was "
@@ -166,7 +166,8 @@ def event_of(row: RecordedEvent) -> SiteEvent:
 
 def line_of(row: RecordedEvent) -> str:
     """The line of a command, as the console has it."""
-    return COMMANDS[row.kind].format(radio=row.radio, carrier=row.carrier, slot=row.slot, channel=row.channel)
+    name, *letters = COMMANDS[row.kind].words.split()
+    return " ".join([name, *(str(getattr(row, COLUMNS[it])) for it in letters)])
 
 
 def refused_events(records: Records, since: int, from_ms: int, to_ms: int, most: int) -> Iterator[SiteEvent]:

@@ -1,5 +1,6 @@
 """The worked cases in cases/: what is replayed over which site, and what the replay prints. cases/README.md says how their texts are read."""
 import itertools
+import pathlib
 import re
 import tomllib
 from collections.abc import Iterator
@@ -8,6 +9,7 @@ from dataclasses import dataclass, field
 from temzaar import code, pdus
 from temzaar.frames import DONE, POLL, FrameType, burst_frame, hello, rx, welcome
 from temzaar.sitefile import Site
+from temzaar.sitekeys import SITE_KEYS
 from tests.support import SITES, TOP
 
 FOLDER = TOP / "cases"
@@ -16,6 +18,9 @@ PORTS_FILE, PORTS_MODULE = FOLDER / "links" / "failing_ports.txt", TOP / "crates
 USUAL_SITE = "two_carriers"
 # The names of the two files in a fault.
 SITE_FILE, SCRIPT_FILE = "the.toml", "the.txt"
+# The site of the stored run of dmr_trunk, and tests that cannot read a file: their `SITE` is the text of one.
+TRUNK_SITE = TOP / "crates" / "dmr_trunk" / "data" / "site.toml"
+SITES_IN_CRATES = [TOP / "crates" / it for it in ("test_program/src/refusals/calls.rt", "test_stories/src/site_file.rt", "test_trials/src/site.rt")]
 # What test_program prints after the cases: each call that takes memory succeeds, and words with at most three flips are read.
 PRINTED_AFTER = """\
 Plan::read: done
@@ -155,13 +160,16 @@ class Changes:
 
     def text(self) -> str:
         """The changed site file."""
-        site = Site(str(SITES / f"{self.name}.toml"))
+        site, others = Site(str(SITES / f"{self.name}.toml")), ""
         for line in self.lines:
-            if line.startswith("without "):
-                del site.plan[line.removeprefix("without ")]
+            how, _, said = line.partition(" ")
+            if how == "without":
+                del site.plan[said]
+            elif (values := tomllib.loads(said)).keys() <= SITE_KEYS.keys():
+                site.plan.update(values)
             else:
-                site.plan.update(tomllib.loads(line.removeprefix("with ")))
-        return site.text()
+                others += f"{said}\n"
+        return others + site.text()
 
 
 def numbers_of(words: list[str]) -> list[int]:
@@ -263,3 +271,19 @@ def ports_module() -> str:
     rows = "".join(f"{line}\n" for line in lines)
     return ("//! The rows of `cases/links/failing_ports.txt`. `ci/stored-cases` writes this file.\n\n"
             f'/// The rows, after a line with the peer and a name.\npub static ROWS: &str = "\\\n{rows}";\n')
+
+
+def with_site(source: str) -> str:
+    """A source of a test with the usual site as its `SITE`: without comments, and with another `silence`, which nothing there waits for."""
+    site = re.sub(r"^(#.*)?\n", "", (SITES / f"{USUAL_SITE}.toml").read_text(encoding="utf-8"), flags=re.M)
+    before, begin, rest = source.partition('const SITE: &str = "\\\n')
+    return before + begin + re.sub(r"^silence = .*", "silence = 100", site, flags=re.M) + rest[rest.index('";\n'):]
+
+
+def stored_files() -> dict[pathlib.Path, str]:
+    """What is stored of the cases and of the usual site, by file."""
+    taken, printed = stored_run()
+    program = TOP / "crates" / "test_program"
+    return {program / "stdin": taken, program / "stdout": printed, PORTS_MODULE: ports_module(),
+            TRUNK_SITE: (SITES / f"{USUAL_SITE}.toml").read_text(encoding="utf-8"),
+            **{path: with_site(path.read_text(encoding="utf-8")) for path in SITES_IN_CRATES}}

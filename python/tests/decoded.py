@@ -7,7 +7,8 @@ from typing import NamedTuple
 from temzaar import code, pdus
 from temzaar.frames import FROM_CARRIER, REFUSALS, TO_CARRIER, Cutter, Frame, FrameType, Link, active
 from temzaar.script import split_connection
-from tests.support import read_document, table_rows
+from temzaar.sitefile import Site
+from tests.support import TWO_CARRIERS, read_document, table_rows
 
 MOST_FLIPS = 3
 # Words that were received from the air and carry no PDU, with their information bits.
@@ -109,20 +110,13 @@ def random_pdu(name: str, draws: random.Random) -> bytes:
     return pdus.write(name, **values)
 
 
-def listed_reasons() -> list[int]:
-    """The reasons row by row of the document's table, which has two columns of them."""
-    reasons = sorted(pdus.REASONS)
-    half = len(reasons) // 2
-    return [reason for row in zip(reasons[:half], reasons[half:], strict=True) for reason in row]
-
-
 def make_traffic(draws: random.Random, each: int) -> Traffic:
     """A script of two carriers: `each` bursts of each PDU with up to three bits flipped, each reason, each kind, noise,
     and the words of HEARD."""
     known: dict[bytes, Flipped] = {}
     lines = ["open 0", "bytes 0 010401000001"]
     drawn = [random_pdu(name, draws) for name in pdus.LAYOUTS for _ in range(each)]
-    drawn += [pdus.write("C_ACKD", reason=reason, target=1001, additional=1002) for reason in listed_reasons()]
+    drawn += [pdus.write("C_ACKD", reason=reason, target=1001, additional=1002) for reason in sorted(pdus.REASONS)]
     drawn += [pdus.write("C_RAND", kind=kind, target=91, source=1001) for kind in pdus.KINDS]
     for octets in drawn:
         places = draws.sample(range(code.PLACES), draws.randrange(MOST_FLIPS + 1))
@@ -169,8 +163,15 @@ def script_of(judged: str) -> str:
     return "".join(line.partition(" -> ")[0] + "\n" for line in judged.split("\n")[:-1] if not line.startswith(" "))
 
 
+def stored_site() -> str:
+    """The site of the stored run: the usual one in both versions of the link, with a third carrier, which has the control slot."""
+    site = Site(TWO_CARRIERS, control=2, link_version=2)
+    site.rows.append({"number": 2, "lpcn": 3, "port": 7103})
+    return site.text()
+
+
 def stored_run() -> tuple[str, str]:
-    """The stored run of `dmr_decode`, `crates/dmr_decode/stdin` and `stdout`: a script and its output, judged by the site in `data`, whose control carrier
-    is carrier 2. First the traffic of all PDUs on other carriers, then the judged session of the control carrier."""
+    """The stored run of `dmr_decode`, `crates/dmr_decode/stdin` and `stdout`: a script and its output, judged by `stored_site`. First the traffic of all PDUs on
+    other carriers, then the judged session of the control carrier."""
     traffic, session = make_traffic(random.Random(1), 1), JUDGED_SESSION.read_text(encoding="utf-8")
     return traffic.script + script_of(session), judged_bystander(traffic.script, traffic.known) + session

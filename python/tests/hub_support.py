@@ -13,7 +13,7 @@ from collections.abc import Callable
 from typing import Any
 from unittest import mock
 
-from temzaar.console import ReplyFrame
+from temzaar.console import CHANGES, ReplyFrame
 from temzaar.hub import notes
 from temzaar.hub.config import AuditKeys, Config, ControllerKeys, HealthKeys, HttpKeys, LinePortKeys, NamesKeys, PollKeys, RecordsKeys
 from temzaar.hub.lines import HUB_LISTS
@@ -168,4 +168,4 @@ class HubCase(unittest.IsolatedAsyncioTestCase):
 
     def changes_asked(self) -> list[str]:
         """The commands that change the site and came to the controller."""
-        return [it for it in self.fake.asked if it.split()[:1] and it.split()[0] in ("drop", "end", "move", "stay")]
+        return [it for it in self.fake.asked if it.split()[:1] and it.split()[0] in CHANGES]

@@ -1,40 +1,29 @@
-"""The completion for bash: it knows each command, and each option that the command's manual page has."""
-import re
+"""The completion for bash: words that it offers."""
+import functools
 import shutil
 import subprocess
+import sys
 import unittest
 
-from tests.support import TOP, manual_pages
+from tests.support import TOP
 
-FILE = TOP / "deploy" / "completion" / "dmr.bash"
-COMMANDS = ("dmr_trunk", "dmr_decode", "dmr_siteview", "dmr_timeline", "dmr_callbook", "dmr_report", "dmr_archive", "dmr_carriers", "dmr_conform", "dmr_check", "dmr_restart", "dmr_hub", "dmr_console")
+
+@functools.cache
+def completion() -> str:
+    """The completion, as `make install` writes it."""
+    return subprocess.run([sys.executable, "ci/write-manual", "--completion"], cwd=TOP, capture_output=True, text=True, check=True).stdout
 
 
 def completed(words: list[str]) -> list[str]:
     """What bash offers for the last of these words."""
     before = words[-2] if len(words) > 1 else ""
-    script = f'. "{FILE}"; compopt() {{ :; }}; COMP_WORDS=("$@"); COMP_CWORD=$(($# - 1)); COMPREPLY=(); _dmr "$1" "${{!#}}" "{before}"; printf "%s\\n" "${{COMPREPLY[@]}}"'
+    script = f'{completion()} compopt() {{ :; }}; COMP_WORDS=("$@"); COMP_CWORD=$(($# - 1)); COMPREPLY=(); _dmr "$1" "${{!#}}" "{before}"; printf "%s\\n" "${{COMPREPLY[@]}}"'
     return subprocess.run(["bash", "-c", script, "bash", *words], cwd=TOP, capture_output=True, text=True, check=True).stdout.split()
-
-
-def options_in_manual(command: str) -> set[str]:
-    """The long options that a command's manual page names, its own: not those of other commands in examples."""
-    page = next(path for name, path in manual_pages().items() if name in (f"{command}.1", f"{command}.8"))
-    text = re.sub(r"\\f[BIR]", "", page.read_text(encoding="utf-8").replace("\\-", "-"))
-    part = re.search(r"^\.SH OPTIONS\n(.*?)(?=^\.SH )", text, re.M | re.S) or re.search(r"^\.SH SYNOPSIS\n(.*?)(?=^\.SH DESCRIPTION)", text, re.M | re.S)
-    assert part
-    return set(re.findall(r"(?<![\w-])--[a-z][a-z-]*", part[1]))
 
 
 @unittest.skipUnless(shutil.which("bash"), "there is no bash")
 class Completion(unittest.TestCase):
-    """Words that bash offers."""
-
-    def test_options(self) -> None:
-        """Each option of the manual page is offered."""
-        for command in COMMANDS:
-            with self.subTest(command):
-                self.assertLessEqual(options_in_manual(command), set(completed([command, "--"])) | {"--version"})
+    """Words that bash offers. The options of most commands come from their help."""
 
     def test_words(self) -> None:
         """Tasks of the decoder, commands of the console, and values of options."""
@@ -57,6 +46,8 @@ class Completion(unittest.TestCase):
             (["dmr_archive", "--folder", "dep"], ["deploy"]),
             (["/usr/bin/dmr_hub", "--ch"], ["--check"]),
             (["dmr_trunk", "--terms", ""], []),
+            (["dmr_trunk", "--s"], ["--site", "--serve", "--script"]),
+            (["dmr_decode", "--f"], ["--fields"]),
         ):
             with self.subTest(words):
                 self.assertEqual(completed(words), offered)

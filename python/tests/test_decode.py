@@ -113,9 +113,8 @@ class Stored(unittest.TestCase):
     """The stored run of the crate is what is worked out here."""
 
     def test_stored_run(self) -> None:
-        script, printed = decoded.stored_run()
-        self.assertEqual((CRATE / "stdin").read_text(encoding="utf-8"), script)
-        self.assertEqual((CRATE / "stdout").read_text(encoding="utf-8"), printed)
+        for name, text in zip(("data/site.toml", "stdin", "stdout"), (decoded.stored_site(), *decoded.stored_run()), strict=True):
+            self.assertEqual((CRATE / name).read_text(encoding="utf-8"), text)
 
 
 class Program(unittest.TestCase):

@@ -5,8 +5,9 @@ import pathlib
 import socket
 import unittest
 
+from temzaar.console import CHANGES, QUESTIONS
 from temzaar.hub.lineport import PortFault, bind_socket
-from temzaar.hub.lines import Line, LineCutter, LineKind, escape_octets
+from temzaar.hub.lines import OWN, Line, LineCutter, LineKind, escape_octets
 from temzaar.hub.roles import ConfigFault, Role, Rules, find_rules
 from temzaar.hub.config import RoleKeys
 from temzaar.ports import free_ports
@@ -116,7 +117,7 @@ class Served(HubCase):
         await operator.ask(b"move 7")
         other = await self.connect()
         names = [line.split()[1].decode().rstrip(":") for line in (await operator.ask(b"help")).splitlines()[:-1]]
-        self.assertEqual(names, ["status", "radios", "calls", "lines", "slots", "drop", "end", "move", "stay", "help", "history", "names", "events", "acknowledge", "who"])
+        self.assertEqual(names, [*QUESTIONS, *CHANGES, *OWN])
         who = (await other.ask(b"who")).decode().splitlines()
         self.assertRegex(who[0], rf"^who console 127\.0\.0\.1:{self.fake.port} up since \d{{4}}-\d\d-\d\dT\d\d:\d\d:\d\dZ$")
         self.assertRegex(who[1], r"^who 1 \S.* full since \S+Z lines 3$")

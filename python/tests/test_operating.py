@@ -8,15 +8,20 @@ from temzaar.script import read_printed
 from tests.support import TWO_CARRIERS, program, read_document
 
 OPERATING = read_document("OPERATING.md")
-PARTIES = r"(group|radio) \d+ from \d+"
-# The possible answers of each command, line by line; a list ends with `end`.
-REPLIES = {
-    "status": r"status carriers \d+ radios \d+ asks \d+ lines \d+ calls \d+ fill (aloha|move \d+)",
-    "radios": r"radio \d+", "calls": rf"call \d+ [01] {PARTIES}", "lines": rf"line \d+ {PARTIES}", "slots": r"slot \d+ [01] (control|down|call|free|waiting)",
-    "drop": r"ok|error (not registered|busy)", "end": r"ok|error (no call|no carrier)", "move": r"ok", "stay": r"ok",
-}
+FORMATS = read_document("FORMATS.md")
+
+
+def lines_of(cell: str) -> str:
+    """A pattern for the lines that a reply of docs/FORMATS.md may have: those in backticks, of which each word in capitals stands for a number or a state."""
+    said, _, states = cell.partition("STATE is")
+    words = {"STATE": f"({'|'.join(states.split('`')[1::2])})", "..": ".*"}
+    return "|".join(" ".join(words.get(it, r"\d+" if it.isupper() else it) for it in line.split()) for line in said.split("`")[1::2])
+
+
+# The possible lines of each command's reply.
+REPLIES = {name: lines_of(cell) for name, cell in re.findall(r"^\| `(\w+)[^|]*\|[^|]*\|(.*)\|$", FORMATS[FORMATS.index("## Console"):], re.M)}
 # Lines whose answers are the same on every site.
-ALWAYS = {"move", "stay"}
+ALWAYS = {name for name, forms in REPLIES.items() if forms == "ok"}
 
 
 def transcripts() -> list[list[str]]:
@@ -50,10 +55,9 @@ class Console(unittest.TestCase):
                 if answer == ["error unknown command"]:
                     continue
                 name = asked.split()[0]
-                last = answer.pop() if name in LISTS and answer[-1] == "end" else ""
-                errors = ["error no carrier"] if name == "calls" else []
-                self.assertTrue(all(re.fullmatch(REPLIES[name], line) or line in errors for line in answer), answer)
-                self.assertEqual(last == "end", name in LISTS and answer != errors)
+                self.assertEqual(answer[-1] == "end", name in LISTS and not answer[0].startswith("error"))
+                for line in answer:
+                    self.assertRegex(line, f"^({REPLIES[name]})$")
 
     def test_answers_that_depend_on_no_state(self) -> None:
         chosen = [(asked, answer) for asked, answer in exchanges() if asked.split()[0] in ALWAYS or answer[0] in ("error unknown command", "error no carrier")]

@@ -11,6 +11,7 @@ from collections.abc import Callable
 
 from temzaar.cli import archive, callbook, report
 from temzaar.hub.newrecords import SUMMED, read_new
+from temzaar.records import VERSION
 from tests.made_records import NOON, insert, make_records, opened
 from tests.support import TOP, FolderCase, call_tool, queries_of, read_document, table_rows
 from tests.worked_session import CALLS, EVENTS, REGISTRATIONS, RUNS, Columns, Session
@@ -67,14 +68,13 @@ def statements_of_tables() -> str:
     return statements_of("TABLES")
 
 
-def statements_of_first() -> str:
-    """Those that made the tables of version 1: without `waited`, and without `carriers`."""
-    text = statements_of_tables()
-    for pattern, first in ((r", waited INTEGER\)", ")"), (r"CREATE TABLE carriers [^;]*;", ""),
-                           (r"VALUES \(2\)", "VALUES (1)")):
-        text, count = re.subn(pattern, first, text)
-        assert count == 1, pattern
-    return text
+def statements_of_before() -> str:
+    """Those that made the tables of the version before, as those that carry it over have them: a table X is X_before there, or is new."""
+    text, carried = statements_of_tables(), statements_of("CARRY_OVER")
+    for name in re.findall(r"CREATE TABLE (\w+)(?<!_before) ", carried):
+        before = re.search(rf"CREATE TABLE {name}_before [^;]*;", carried)
+        text = re.sub(rf"CREATE TABLE {name} [^;]*;", before[0].replace("_before", "") if before else "", text)
+    return text.replace(f"VALUES ({VERSION})", f"VALUES ({VERSION - 1})")
 
 
 class Documented(FolderCase):
@@ -98,16 +98,17 @@ class Documented(FolderCase):
         self.assertEqual(sorted(it[0] for it in made), sorted(TABLES))
 
     def test_version(self) -> None:
-        """The document says which it is. The statements that carry version 1 over make the tables
-        that a new file has, and keep rows."""
+        """The document says which it is. The statements that carry the version before over make the
+        tables that a new file has, and keep rows."""
         version = table_rows(self.document, "`schema_version` has")[0][1]
         made = self.conn.execute("SELECT * FROM schema_version").fetchall()
         self.assertEqual(made, [(int(version),)])
+        self.assertEqual(made, [(VERSION,)])
         with opened(":memory:") as other:
-            other.executescript(statements_of_first())
-            self.assertEqual(other.execute("SELECT * FROM schema_version").fetchall(), [(1,)])
-            call = (7, 3, 1, 0, 1, 1001, 91, 20, 2000, 40, 4000, "maximum")
-            insert(other, "calls", (call,))
+            other.executescript(statements_of_before())
+            self.assertEqual(other.execute("SELECT * FROM schema_version").fetchall(), [(VERSION - 1,)])
+            insert(other, "calls", ((7, 3, 1, 0, 1, 1001, 91, 20, 2000, 40, 4000, "maximum"),))
+            [call] = other.execute("SELECT * FROM calls").fetchall()
             other.executescript(statements_of("CARRY_OVER"))
             self.assertEqual(other.execute("SELECT * FROM calls").fetchall(), [(*call, None)])
             self.assertEqual(other.execute("SELECT * FROM schema_version").fetchall(), made)
@@ -255,7 +256,7 @@ class Written(FolderCase):
         """They are those of the crate, and sound. No row was removed."""
         self.assertEqual(self.rows("removed"), [(0, 0, 0)])
         self.assertEqual(self.conn.execute("PRAGMA integrity_check").fetchall(), [("ok",)])
-        self.assertEqual(self.rows("schema_version"), [(2,)])
+        self.assertEqual(self.rows("schema_version"), [(VERSION,)])
         with opened(":memory:") as other:
             other.executescript(statements_of_tables())
             made, wanted = (it.execute(SCHEMA).fetchall() for it in (self.conn, other))

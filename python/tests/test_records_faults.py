@@ -1,5 +1,5 @@
 """A file of records that a served controller cannot use, or cannot write for a while, or carries
-over from version 1, and how many rows the file keeps (docs/RECORDS.md). All of it is skipped if the
+over from the version before, and how many rows the file keeps (docs/RECORDS.md). All of it is skipped if the
 program was not built."""
 import pathlib
 import resource
@@ -10,9 +10,10 @@ import time
 from typing import Any
 
 from temzaar.process import Controller
+from temzaar.records import VERSION
 from tests.made_records import CALLS, EVENTS, REGISTRATIONS, TERMS, insert, opened
 from tests.served_kit import PATIENCE, ServedCase
-from tests.test_records import SCHEMA, statements_of_first, statements_of_tables
+from tests.test_records import SCHEMA, statements_of_before, statements_of_tables
 from tests.worked_session import Player, site_of, size_of
 
 # A program that reads a file of records, and stays connected until its input ends.
@@ -32,7 +33,7 @@ CALL = ("0 comes up", "1 comes up", "1001 joins", "1001 calls 91", "say end 0 0"
 # What is noted if the file cannot be read at the start, and of the first term that is not written.
 NOT_READ = "no radio is registered again: "
 NOT_KEPT = "not kept, trying again with each term: "
-# How often a controller is killed over a file of version 1, and how many calls it has.
+# How often a controller is killed over a file of the version before, and how many calls it has.
 KILLS, MANY_CALLS = 8, 5000
 # How many rows of each table stay. Older ones are removed with each 101st term.
 MOST_ROWS, REMOVES = 100_000, 101
@@ -70,7 +71,7 @@ class Faults(Served):
         self.assertTrue(self.path.read_bytes() == before)
 
     def test_newer_tables(self) -> None:
-        self.make(statements_of_tables() + "; INSERT INTO schema_version VALUES (3)")
+        self.make(statements_of_tables() + f"; INSERT INTO schema_version VALUES ({VERSION + 1})")
         self.expect_fault("a later version wrote the file")
 
     def test_other_tables(self) -> None:
@@ -183,7 +184,7 @@ class Limits(Played):
 
 
 class CarriedOver(Played):
-    """A file of version 1 with rows."""
+    """A file of the version before with rows."""
 
     def setUp(self) -> None:
         super().setUp()
@@ -193,7 +194,7 @@ class CarriedOver(Played):
     def make_first(self, calls: int = 0) -> None:
         """Makes the file, with the made records. `calls` is how many calls it has, if not as many as were made."""
         self.path.unlink(missing_ok=True)
-        self.make(statements_of_first())
+        self.make(statements_of_before())
         with opened(self.path) as conn:
             insert(conn, "terms", TERMS)
             insert(conn, "events", EVENTS)
@@ -209,7 +210,7 @@ class CarriedOver(Played):
         return {it: self.rows(f"SELECT * FROM {it} ORDER BY 1") for it in tables}
 
     def expect_first_rows(self, term: int = 0) -> None:
-        """The rows of version 1 are there, and the columns that it does not have are NULL. Others
+        """The rows of the version before are there, and the columns that it does not have are NULL. Others
         are of this term."""
         for table, rows in self.contents().items():
             wanted = self.first[table]
@@ -224,7 +225,7 @@ class CarriedOver(Played):
 
     def expect_version(self) -> None:
         """The tables are those of a new file, and sound."""
-        self.assertEqual(self.rows("SELECT * FROM schema_version"), [(2,)])
+        self.assertEqual(self.rows("SELECT * FROM schema_version"), [(VERSION,)])
         self.assertEqual(self.rows("PRAGMA integrity_check"), [("ok",)])
         with opened(":memory:") as other:
             other.executescript(statements_of_tables())
@@ -240,7 +241,7 @@ class CarriedOver(Played):
         self.assertEqual(self.rows("SELECT * FROM carriers"), [])
 
     def test_the_next_term(self) -> None:
-        """It has the next numbers, and what version 1 does not have. A start after it finds tables
+        """It has the next numbers, and what the version before does not have. A start after it finds tables
         of this version."""
         self.assertEqual(self.play_term(1 << 20), [])
         self.expect_version()
@@ -261,7 +262,7 @@ class CarriedOver(Played):
             noted.append(NOT_KEPT + refused in self.play_term(most, from_start=True))
             versions = self.rows("SELECT * FROM schema_version")
             self.assertEqual(self.rows("PRAGMA integrity_check"), [("ok",)], most)
-            if versions == [(1,)]:
+            if versions == [(VERSION - 1,)]:
                 self.assertEqual(self.contents(), self.first, most)
             else:
                 self.expect_version()
@@ -293,13 +294,13 @@ class CarriedOver(Played):
             self.assertEqual(self.rows("PRAGMA integrity_check"), [("ok",)])
             [(version,)] = self.rows("SELECT * FROM schema_version")
             versions.append(version)
-            if version == 1:
+            if version < VERSION:
                 self.assertEqual(self.contents(), self.first, number)
                 with self.serve(site):
                     pass
             self.expect_version()
             self.expect_first_rows()
-        self.assertEqual((versions[0], versions[-1]), (1, 2))
+        self.assertEqual((versions[0], versions[-1]), (VERSION - 1, VERSION))
 
 
 def fill(conn: sqlite3.Connection, table: str, count: int) -> None:

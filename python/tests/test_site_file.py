@@ -7,14 +7,12 @@ import tomllib
 import unittest
 from collections.abc import Iterator
 
-from tests.support import TOP, TWO_CARRIERS, FolderCase, program, read_document, table_rows
+from tests.support import TWO_CARRIERS, FolderCase, program, read_document, table_rows
 
 SITE_FILE = read_document("SITE_FILE.md")
 ARRAYS = ("address", "radios", "groups", "carrier")
 NO_CARRIER = 15
 MIB = 1 << 20
-# Tests and programs that cannot read a file: their `SITE` is the text of one.
-SITES_IN_CRATES = ("test_program/src/refusals/calls.rt", "test_stories/src/site_file.rt", "test_trials/src/site.rt")
 
 
 def example() -> str:
@@ -34,24 +32,10 @@ def changed(text: str, key: str, value: str | None) -> str:
 
 
 class Example(unittest.TestCase):
-    """The copies of the example are the same; those in crates have another `silence`, which nothing there waits for."""
+    """The site file that the document names."""
 
     def test_the_document_names_it(self) -> None:
         self.assertIn(f"`{os.path.basename(TWO_CARRIERS)}`", SITE_FILE)
-
-    def test_the_stored_run_has_the_same_site(self) -> None:
-        with open(TWO_CARRIERS, "rb") as it, open(TOP / "crates" / "dmr_trunk" / "data" / "site.toml", "rb") as other:
-            self.assertEqual(it.read(), other.read())
-
-    def test_the_crates_have_the_same_site(self) -> None:
-        with open(TWO_CARRIERS, "rb") as it:
-            wanted = {**tomllib.load(it), "silence": 100}
-        for source in SITES_IN_CRATES:
-            with self.subTest(source):
-                text = (TOP / "crates" / source).read_text(encoding="utf-8")
-                literal = re.search(r'const SITE: &str =\s+"((?:[^"\\]|\\.|\\\n)*)"', text)
-                assert literal
-                self.assertEqual(tomllib.loads(literal[1].replace("\\\n", "").replace("\\n", "\n")), wanted)
 
     def test_every_key_is_in_the_table(self) -> None:
         keys = {row[0] for row in table_rows(SITE_FILE, "| key | value | if missing")}

@@ -45,7 +45,7 @@ Counts. Definitions: 2; 2 new, of 6 lines.
 
 - one: Numbers (most IsSmall), src (Kind)
 
-2 definitions of the 3 in `specs/`, 6 lines; 1 types; 0 traits; 0 words of the library.
+2 definitions, 6 lines; 1 types; 0 traits; 0 words of the library.
 """
 LAW = """
 /// Does nothing.
@@ -62,7 +62,7 @@ The clauses leave each of them one value. What the clauses use is listed above.
 
 - `one::IsSmall`: `one::smalls.alone`
 
-1 definitions of the 3 in `specs/`, 3 lines; 1 types; 0 traits; 0 words of the library.
+1 definitions, 3 lines; 1 types; 0 traits; 0 words of the library.
 """
 TEXT = """\
 - `one/specs/Numbers.antt`: most IsSmall
@@ -89,8 +89,7 @@ class Trusted(FolderCase):
         for path, text in (("crates/one/src/lib.rt", CODE), ("crates/one/specs/Numbers.antt", NUMBERS), ("crates.txt", "one:\n")):
             self.write(path, text)
         document = self.write("TRUSTED.md", "# Head\n\nThe functions: `none`.\n")
-        self.enterContext(mock.patch.multiple(
-            tool, CRATES=self.folder / "crates", DOCUMENT=document, SHORT=self.folder / "ASSURANCE.md"))
+        self.enterContext(mock.patch.multiple(tool, CRATES=self.folder / "crates", DOCUMENT=document))
         self.enterContext(mock.patch.object(clauses, "TOP", self.folder))
         clauses.all_items.cache_clear()
         self.addCleanup(clauses.all_items.cache_clear)
@@ -98,14 +97,6 @@ class Trusted(FolderCase):
     def printed(self, sources: bool = False) -> str:
         """What is printed of the function."""
         return str(tool.page_of(tool.Reader(), ["one::count"], sources))
-
-    def faults(self, page: str, short: str) -> list[str]:
-        """The faults of a list, and of the page that has its counts."""
-        reader = tool.Reader()
-        reader.follow_function("one::count")
-        self.write("TRUSTED.md", page)
-        self.write("ASSURANCE.md", short)
-        return tool.faults_of(reader, "the list")
 
     def test_a_line_for_each_crate(self) -> None:
         """A definition comes after those that it uses. Its text is printed on demand, with the comments."""
@@ -127,8 +118,3 @@ class Trusted(FolderCase):
             self.assertIn("`one::smalls.alone`\n\n```\n    ensures alone { (n : ℕ) → IsSmall n ↔ n ≤ other }\n```\n", self.printed(True))
         with mock.patch.dict(tool.LAWS, {"one::IsSmall": ("one::smalls", "none")}), self.assertRaises(SystemExit):
             self.printed()
-
-    def test_refusals(self) -> None:
-        self.assertEqual(self.faults("the list", "They depend on 2 definitions\n(6 lines)."), [])
-        self.assertEqual(self.faults("another", "2 definitions (6 lines)"), ["docs/TRUSTED.md is not what ci/trusted-definitions prints"])
-        self.assertEqual(self.faults("the list", "3 definitions (6 lines)"), ['docs/ASSURANCE.md has to say "2 definitions (6 lines)"'])

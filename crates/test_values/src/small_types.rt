@@ -1,8 +1,8 @@
-//! Worked values of the small types: channels, slots, reasons, kinds, addresses and lists.
+//! Worked values of the small types: channels, slots, kinds, addresses and lists.
 
 use crate::lines::{Listener, check_lines, cut, expect_same, expect_true};
 use dmr_pdu::{
-    Address, Blank, BoundedList, CarrierNo, Kind, Lpcn, Options, OutOfMemory, Reason, Slot, SlotNo,
+    Address, Blank, BoundedList, CarrierNo, Kind, Lpcn, Options, OutOfMemory, Slot, SlotNo,
 };
 use std::test::Fail;
 
@@ -76,32 +76,6 @@ fn blanks(rt: HostRuntime) {
     expect_same(&rt, "channel", Lpcn::try_new(1), Some(Lpcn::blank()));
     expect_true(&rt, "slot", Slot::blank() < Slot::at(31));
     expect_true(&rt, "address", Address::blank() < Address::new(0xFF_FFFF));
-}
-
-#[test]
-fn reasons(rt: HostRuntime) {
-    let cases = [
-        (Reason::NOT_SUPPORTED, 0x20),
-        (Reason::PERM_USER_REFUSED, 0x21),
-        (Reason::TRANSIENT_SYS_REFUSED, 0x23),
-        (Reason::NOREG_MS_AWAY, 0x24),
-        (Reason::SYSBUSY_REFUSED, 0x27),
-        (Reason::CALL_CANCEL_REFUSED, 0x29),
-        (Reason::REG_REFUSED, 0x2A),
-        (Reason::REG_DENIED, 0x2B),
-        (Reason::MS_NOT_REGISTERED, 0x2D),
-        (Reason::CALLED_PARTY_BUSY, 0x2E),
-        (Reason::GROUP_NOT_ALLOWED, 0x2F),
-        (Reason::MS_ACCEPTED, 0x44),
-        (Reason::MESSAGE_ACCEPTED, 0x60),
-        (Reason::REG_ACCEPTED, 0x62),
-        (Reason::QUEUED_FOR_RESOURCE, 0xA0),
-        (Reason::WAIT, 0xE0),
-    ];
-    for (reason, octet) in cases {
-        expect_same(&rt, octet, reason.get(), octet);
-        expect_same(&rt, octet, reason, Reason::new(octet));
-    }
 }
 
 #[test]

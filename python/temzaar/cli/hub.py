@@ -8,7 +8,7 @@
 
 The controller serves one console connection at a time. The hub has that connection, and opens it again whenever it ends. It passes on the lines of all who are
 connected to it, one question at a time; users take turns. While the controller is away, each line is answered at once with the reason. Each user and group has
-a role by the config file: `read` may ask, and `full` may also change the site with `drop`, `end`, `move` and `stay`. Nobody else is served, unless the file
+a role by the config file: `read` may ask, and `full` may also change the site with {changes}. Nobody else is served, unless the file
 says so.
 
 Each command that changes the site is written to an audit log before it is sent, and again with its reply; a command that was refused is written too. If the log
@@ -25,6 +25,7 @@ import os
 from collections.abc import Sequence
 
 from temzaar.cli.command import parse_words, run_command
+from temzaar.console import CHANGES
 from temzaar.faults import ToolFault
 from temzaar.hub.config import DEFAULT_PATH, Config, load_config
 from temzaar.hub.keys import ConfigFault
@@ -36,7 +37,9 @@ from temzaar.version import read_version
 
 def read_words(words: Sequence[str] | None) -> argparse.Namespace:
     """The words of the command line."""
-    parser = argparse.ArgumentParser(description=__doc__, formatter_class=argparse.RawDescriptionHelpFormatter)
+    *changes, last = (f"`{it}`" for it in CHANGES)
+    about = str(__doc__).format(changes=f"{', '.join(changes)} and {last}")
+    parser = argparse.ArgumentParser(description=about, formatter_class=argparse.RawDescriptionHelpFormatter)
     parser.add_argument("--config", metavar="FILE", default=DEFAULT_PATH, help=f"the config file ({DEFAULT_PATH})")
     parser.add_argument("--records", metavar="RECORDS", help="the controller's file of records, in place of that of the config file")
     parser.add_argument("--names", metavar="CSV", help="the file of names, in place of that of the config file")

@@ -3,11 +3,19 @@ import enum
 import re
 from dataclasses import dataclass
 
-from temzaar.console import CHANGES, LISTS, LONGEST_LINE, QUESTIONS
+from temzaar.console import CHANGES, LISTS, LONGEST_LINE, QUESTIONS, Command
 
 # The hub answers these itself, with lists.
 ACKNOWLEDGE = "acknowledge"
-OWN = ("help", "history", "names", "who", "events", ACKNOWLEDGE)
+OWN_COMMANDS = (
+    Command("help", "this list"),
+    Command("history N", "the last N commands that change the site, 16 without N"),
+    Command("names K N ..", "the names of numbers N; K is radio, talkgroup or carrier"),
+    Command("events N", "the last N events of the site, 16 without N"),
+    Command("acknowledge N ..", "acknowledges events N; `acknowledge all`: each that waits", changes=True),
+    Command("who", "the controller, the site's name, and who is connected to the hub"),
+)
+OWN = tuple(it.name for it in OWN_COMMANDS)
 # In the place of numbers: each event that waits for an acknowledgement.
 ALL = "all"
 # What the hub answers while the controller does not, and to a line that has no answer or was not sent; the reason follows.

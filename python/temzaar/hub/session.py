@@ -7,14 +7,14 @@ from collections.abc import Callable, Coroutine, Iterable, Iterator
 from dataclasses import dataclass, field
 from typing import Any
 
-from temzaar.console import TOO_LONG, UNKNOWN, are_numbers
+from temzaar.console import COMMANDS, TOO_LONG, UNKNOWN, are_numbers
 from temzaar.hub.audit import AuditFault, AuditLog
 from temzaar.hub.config import LinePortKeys
 from temzaar.hub.counts import HubCounts
 from temzaar.hub.eventfeed import ACKNOWLEDGED, record_of_event
 from temzaar.hub.eventlog import Acknowledgement, EventLog, KeptEvent
 from temzaar.hub.eventviews import event_row, event_rows
-from temzaar.hub.lines import ACKNOWLEDGE, ALL, NAME, NO_ANSWER, WHO_SITE, Line, LineCutter, LineKind, escape_octets
+from temzaar.hub.lines import ACKNOWLEDGE, ALL, NAME, NO_ANSWER, OWN_COMMANDS, WHO_SITE, Line, LineCutter, LineKind, escape_octets
 from temzaar.hub.link import ConsoleLink, NoAnswer
 from temzaar.hub.moment import utc_text
 from temzaar.hub.namebook import NameBook
@@ -38,23 +38,7 @@ MOST_REFUSALS, REFUSALS_SECONDS = 10, 3600.0
 HTTP = tuple(f"{it} ".encode() for it in ("GET", "HEAD", "POST", "PUT", "DELETE", "CONNECT", "OPTIONS", "TRACE", "PATCH"))
 HISTORY_ROWS, MOST_HISTORY_ROWS = 16, 100
 NOT_RECORDED = "not done: the audit log cannot be written"
-HELP = (
-    ("status", "counts, and what a quiet control slot sends"),
-    ("radios N", "16 registered radios, from radio N on"),
-    ("calls C", "the calls on carrier C"),
-    ("lines N", "16 requests that wait for a slot, from the Nth on"),
-    ("slots", "the state of each slot"),
-    ("drop R", "removes the registration of radio R (role full)"),
-    ("end C S", "ends the call on slot S of carrier C (role full)"),
-    ("move L", "sends radios to channel L, until stay (role full)"),
-    ("stay", "sends radios away no longer (role full)"),
-    ("help", "this list"),
-    ("history N", "the last N commands that change the site, 16 without N"),
-    ("names K N ..", "the names of numbers N; K is radio, talkgroup or carrier"),
-    ("events N", "the last N events of the site, 16 without N"),
-    ("acknowledge N ..", "acknowledges events N; `acknowledge all`: each that waits (role full)"),
-    ("who", "the controller, the site's name, and who is connected to the hub"),
-)
+HELP = tuple((it.words, it.about + (" (role full)" if it.changes else "")) for it in (*COMMANDS, *OWN_COMMANDS))
 
 
 @dataclass

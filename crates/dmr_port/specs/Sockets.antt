@@ -28,14 +28,15 @@ pub record SocketState : Type 0 where
   pub found : Option Found
   pub shown : Option (List (List ℕ))
 
--- time may pass, and newcomers may come, show octets and go. The connection stays as it was
+-- time may pass, and newcomers may come, show octets and go. The connection stays as it was, and so does what the
+-- latest wait found
 pub record KeepsConnection (old new : SocketState) : Type 0 where
   pub connection : new.is_open ≡ old.is_open
   pub log : new.log ≡ old.log
   pub clock : old.clock ≤ new.clock
   pub found : new.found ≡ old.found
 
--- time may pass, and the connection may change. The newcomers stay as they were
+-- time may pass, and the connection may change. The newcomers stay as they were, and so does what the latest wait found
 pub record KeepsNewcomers (old new : SocketState) : Type 0 where
   pub waiting : new.waiting ≡ old.waiting
   pub shown : new.shown ≡ old.shown

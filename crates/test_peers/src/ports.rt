@@ -164,7 +164,7 @@ fn play(rt: &(impl Abort + AllocGlobal), whose: Whose, row: &Row) -> Result<(), 
     }
     let reported = sums_of(port.witness().kept().unwrap_or(&[]));
     let (sockets, pad) = port.into_parts();
-    let logged = sums_of(sockets.log.kept().unwrap_or(&[]));
+    let logged = sums_of(sockets.log().kept().unwrap_or(&[]));
     let text = pad.text.as_str();
     match row.notes.strip_prefix("..") {
         Some(last) => assert!(rt; text.ends_with(last), "{}: {text}", row.name),

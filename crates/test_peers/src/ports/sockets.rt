@@ -93,18 +93,26 @@ struct Last {
     ended: u64,
 }
 
+/// What a port sees of sockets in memory.
+#[derive(Debug, Drop)]
+struct Seen {
+    clock: u64,
+    newcomers: ArrayVec<Newcomer, 9>,
+    connection: Option<usize>,
+    last: Last,
+    log: Answers,
+}
+
 /// A listening socket, its connections, and a clock that goes on in waits, up to `until`. As with edge-triggered
 /// sockets of the system, a wait reports a change once.
 #[derive(Debug, Drop)]
 pub struct MemorySockets {
-    clock: u64,
+    seen: Seen,
     until: u64,
     events: Vec<Event>,
     next: usize,
     peers: Vec<Peer>,
     backlog: VecDeque<usize>,
-    newcomers: ArrayVec<Newcomer, 9>,
-    connection: Option<usize>,
     /// What the next wait reports, for reading and for writing.
     reads: Ready,
     writes: bool,
@@ -113,11 +121,8 @@ pub struct MemorySockets {
     interrupts: [bool; 3],
     /// The number of waits that end at once.
     storm: usize,
-    last: Last,
     /// The numbers of reads and of writes that the port asked for.
     pub asked: (usize, usize),
-    /// The connections that the port took, and the answers to its reads and writes.
-    pub log: Answers,
 }
 
 /// Nothing is ready.
@@ -135,9 +140,9 @@ impl MemorySockets {
         count: usize,
         until: u64,
     ) -> Result<MemorySockets, OutOfMemory>
-        ensures closed { IfOk result (λ s. s.connection ≡ None) }
-        ensures empty { IfOk result (λ s. array_vec_len s.newcomers ≡ 0) }
-        ensures log { IfOk result (λ s. s.log ≡ Some []) }
+        ensures closed { IfOk result (λ s. s.seen.connection ≡ None) }
+        ensures empty { IfOk result (λ s. array_vec_len s.seen.newcomers ≡ 0) }
+        ensures log { IfOk result (λ s. s.seen.log ≡ Some []) }
     {
         let mut peers = Vec::new(alloc);
         for _ in 0..count {
@@ -150,38 +155,44 @@ impl MemorySockets {
             })?;
         }
         Ok(MemorySockets {
-            clock: 0,
+            seen: Seen {
+                clock: 0,
+                newcomers: ArrayVec::new(),
+                connection: None,
+                last: Last {
+                    ready: NOTHING,
+                    sends: false,
+                    ended: 0,
+                },
+                log: Answers::new(alloc),
+            },
             until,
             events,
             next: 0,
             peers,
             backlog: VecDeque::new(alloc),
-            newcomers: ArrayVec::new(),
-            connection: None,
             reads: NOTHING,
             writes: false,
             sends: false,
             refuses: false,
             interrupts: [false; 3],
             storm: 0,
-            last: Last {
-                ready: NOTHING,
-                sends: false,
-                ended: 0,
-            },
             asked: (0, 0),
-            log: Answers::new(alloc),
         })
+    }
+
+    /// The connections that the port took, and the answers to its reads and writes.
+    pub fn log(&self) -> &Answers
+        ensures { result.now ≡ self.now.seen.log }
+    {
+        &self.seen.log
     }
 
     /// Whether the call of a kind, 0 to 2, is interrupted, once.
     fn is_interrupted(&mut self, kind: usize) -> bool
         requires { kind < 3 }
-        ensures connection { self.new.connection ≡ self.old.connection }
-        ensures newcomers { self.new.newcomers ≡ self.old.newcomers }
-        ensures log { self.new.log ≡ self.old.log }
-        ensures clock { self.old.clock ≤ self.new.clock }
-        ensures last { self.new.last ≡ self.old.last }
+        ensures seen { self.new.seen ≡ record self.old.seen { clock = self.new.seen.clock } }
+        ensures clock { self.old.seen.clock ≤ self.new.seen.clock }
     {
         let interrupted = self.interrupts[kind];
         self.interrupts[kind] = false;
@@ -190,13 +201,10 @@ impl MemorySockets {
 
     /// Notes a change of a peer.
     fn note_change(&mut self, peer: usize, closes: bool)
-        ensures connection { self.new.connection ≡ self.old.connection }
-        ensures newcomers { self.new.newcomers ≡ self.old.newcomers }
-        ensures log { self.new.log ≡ self.old.log }
-        ensures clock { self.old.clock ≤ self.new.clock }
-        ensures last { self.new.last ≡ self.old.last }
+        ensures seen { self.new.seen ≡ record self.old.seen { clock = self.new.seen.clock } }
+        ensures clock { self.old.seen.clock ≤ self.new.seen.clock }
     {
-        if self.connection == Some(peer) {
+        if self.seen.connection == Some(peer) {
             self.reads.connection = true;
             self.writes = true;
             if closes {
@@ -209,11 +217,8 @@ impl MemorySockets {
 
     /// Adds octets that a peer sends. If an allocation is refused, it sends none.
     fn send(&mut self, peer: usize, octets: &[u8])
-        ensures connection { self.new.connection ≡ self.old.connection }
-        ensures newcomers { self.new.newcomers ≡ self.old.newcomers }
-        ensures log { self.new.log ≡ self.old.log }
-        ensures clock { self.old.clock ≤ self.new.clock }
-        ensures last { self.new.last ≡ self.old.last }
+        ensures seen { self.new.seen ≡ record self.old.seen { clock = self.new.seen.clock } }
+        ensures clock { self.old.seen.clock ≤ self.new.seen.clock }
     {
         if let Some(peer) = self.peers.get_mut(peer) {
             let _ = peer.octets.extend_from_slice(octets);
@@ -223,11 +228,8 @@ impl MemorySockets {
 
     /// Does what an event says.
     fn apply(&mut self, event: Event)
-        ensures connection { self.new.connection ≡ self.old.connection }
-        ensures newcomers { self.new.newcomers ≡ self.old.newcomers }
-        ensures log { self.new.log ≡ self.old.log }
-        ensures clock { self.old.clock ≤ self.new.clock }
-        ensures last { self.new.last ≡ self.old.last }
+        ensures seen { self.new.seen ≡ record self.old.seen { clock = self.new.seen.clock } }
+        ensures clock { self.old.seen.clock ≤ self.new.seen.clock }
     {
         let peer = event.peer;
         match event.deed {
@@ -265,7 +267,10 @@ impl MemorySockets {
             Deed::Refuses => self.refuses = true,
             Deed::Accepts => self.refuses = false,
             Deed::Interrupts => self.interrupts = [true; 3],
-            Deed::Stops(milliseconds) => self.clock = self.clock.saturating_add(milliseconds),
+            Deed::Stops(milliseconds) => {
+                let now = self.seen.clock;
+                self.seen.clock = now.saturating_add(milliseconds);
+            }
             Deed::Storms(waits) => self.storm = waits,
             Deed::Unknown => {}
         }
@@ -273,17 +278,14 @@ impl MemorySockets {
 
     /// Does what the events of the clock's time say, and of times before it.
     fn apply_due(&mut self)
-        ensures connection { self.new.connection ≡ self.old.connection }
-        ensures newcomers { self.new.newcomers ≡ self.old.newcomers }
-        ensures log { self.new.log ≡ self.old.log }
-        ensures clock { self.old.clock ≤ self.new.clock }
-        ensures last { self.new.last ≡ self.old.last }
+        ensures seen { self.new.seen ≡ record self.old.seen { clock = self.new.seen.clock } }
+        ensures clock { self.old.seen.clock ≤ self.new.seen.clock }
     {
         for _ in self.next..self.events.len() {
             let Some(event) = self.events.get(self.next).copied() else {
                 return;
             };
-            if event.at > self.clock {
+            if event.at > self.seen.clock {
                 return;
             }
             self.next = self.next.saturating_add(1);
@@ -295,17 +297,14 @@ impl MemorySockets {
     fn answer_read(&mut self, octets: &mut [u8]) -> Got
         requires { 0 < length octets.old }
         ensures within { GotWithin result (length octets.new) }
-        ensures connection { self.new.connection ≡ self.old.connection }
-        ensures newcomers { self.new.newcomers ≡ self.old.newcomers }
-        ensures log { self.new.log ≡ self.old.log }
-        ensures clock { self.old.clock ≤ self.new.clock }
-        ensures last { self.new.last ≡ self.old.last }
+        ensures seen { self.new.seen ≡ record self.old.seen { clock = self.new.seen.clock } }
+        ensures clock { self.old.seen.clock ≤ self.new.seen.clock }
     {
         self.asked.0 = self.asked.0.saturating_add(1);
         if self.is_interrupted(1) {
             return Got::Interrupted;
         }
-        let Some(peer) = self.connection else {
+        let Some(peer) = self.seen.connection else {
             return Got::Fault;
         };
         let Some(peer) = self.peers.get_mut(peer) else {
@@ -326,17 +325,14 @@ impl MemorySockets {
     /// The answer to a write.
     fn answer_write(&mut self, octets: &[u8]) -> Put
         ensures within { PutWithin result (length octets.now) }
-        ensures connection { self.new.connection ≡ self.old.connection }
-        ensures newcomers { self.new.newcomers ≡ self.old.newcomers }
-        ensures log { self.new.log ≡ self.old.log }
-        ensures clock { self.old.clock ≤ self.new.clock }
-        ensures last { self.new.last ≡ self.old.last }
+        ensures seen { self.new.seen ≡ record self.old.seen { clock = self.new.seen.clock } }
+        ensures clock { self.old.seen.clock ≤ self.new.seen.clock }
     {
         self.asked.1 = self.asked.1.saturating_add(1);
         if self.is_interrupted(2) {
             return Put::Interrupted;
         }
-        let Some(peer) = self.connection else {
+        let Some(peer) = self.seen.connection else {
             return Put::Fault;
         };
         let Some(peer) = self.peers.get_mut(peer) else {
@@ -355,11 +351,8 @@ impl MemorySockets {
 
     /// Takes what a wait reports.
     fn take_ready(&mut self) -> Ready
-        ensures connection { self.new.connection ≡ self.old.connection }
-        ensures newcomers { self.new.newcomers ≡ self.old.newcomers }
-        ensures log { self.new.log ≡ self.old.log }
-        ensures clock { self.old.clock ≤ self.new.clock }
-        ensures last { self.new.last ≡ self.old.last }
+        ensures seen { self.new.seen ≡ record self.old.seen { clock = self.new.seen.clock } }
+        ensures clock { self.old.seen.clock ≤ self.new.seen.clock }
     {
         let ready = Ready {
             connection: if self.sends {
@@ -377,29 +370,24 @@ impl MemorySockets {
 
     /// Replaces what is known of the newcomer at a place.
     fn set_newcomer(&mut self, place: usize, newcomer: Newcomer)
-        requires { place < array_vec_len self.old.newcomers }
-        ensures set { self.new.newcomers.items
-            ≡ slice_set self.old.newcomers.items place newcomer }
-        ensures len { array_vec_len self.new.newcomers ≡ array_vec_len self.old.newcomers }
-        ensures connection { self.new.connection ≡ self.old.connection }
-        ensures log { self.new.log ≡ self.old.log }
-        ensures clock { self.new.clock ≡ self.old.clock }
-        ensures last { self.new.last ≡ self.old.last }
+        requires { place < array_vec_len self.old.seen.newcomers }
+        ensures set { self.new.seen.newcomers.items
+            ≡ slice_set self.old.seen.newcomers.items place newcomer }
+        ensures len { array_vec_len self.new.seen.newcomers ≡ array_vec_len self.old.seen.newcomers }
+        ensures seen { self.new.seen ≡ record self.old.seen { newcomers = self.new.seen.newcomers } }
     {
-        self.newcomers.as_mut_slice()[place] = newcomer;
+        self.seen.newcomers.as_mut_slice()[place] = newcomer;
     }
 
     /// Waits until something is ready, at most this many milliseconds, and returns what is.
     fn find(&mut self, milliseconds: u64, sends: bool) -> Ready
-        ensures connection { self.new.connection ≡ self.old.connection }
-        ensures newcomers { self.new.newcomers ≡ self.old.newcomers }
-        ensures log { self.new.log ≡ self.old.log }
-        ensures clock { self.old.clock ≤ self.new.clock }
+        ensures seen { self.new.seen ≡ record self.old.seen { clock = self.new.seen.clock } }
+        ensures clock { self.old.seen.clock ≤ self.new.seen.clock }
     {
         if sends != self.sends {
             // Another interest: the system reports again what is ready.
             self.sends = sends;
-            if let Some(peer) = self.connection {
+            if let Some(peer) = self.seen.connection {
                 self.note_change(peer, false);
             }
         }
@@ -407,7 +395,7 @@ impl MemorySockets {
         if self.storm > 0 {
             self.storm -= 1;
             if self.storm % 4 == 0 {
-                self.clock = self.clock.saturating_add(1);
+                self.seen.clock = self.seen.clock.saturating_add(1);
             }
             return Ready {
                 newcomers: true,
@@ -418,12 +406,12 @@ impl MemorySockets {
         if is_any(ready) {
             return ready;
         }
-        let end = self.clock.saturating_add(milliseconds).min(self.until);
+        let end = self.seen.clock.saturating_add(milliseconds).min(self.until);
         let next = match self.events.get(self.next) {
             Some(event) => event.at.min(end),
             None => end,
         };
-        self.clock = self.clock.max(next);
+        self.seen.clock = self.seen.clock.max(next);
         self.apply_due();
         self.take_ready()
     }
@@ -456,23 +444,20 @@ fn copy_front(from: &[u8], to: &mut [u8]) -> usize
 }
 
 impl Sockets for MemorySockets {
-    ghost is_open = { λ s. is_some s.connection };
+    ghost state = { λ s. record {
+      is_open = is_some s.seen.connection;
+      waiting = array_vec_len s.seen.newcomers;
+      log = s.seen.log;
+      clock = s.seen.clock;
+      found = Some (record {
+        ready = s.seen.last.ready;
+        sends = s.seen.last.sends;
+        ended = s.seen.last.ended;
+      });
+      shown = Some (map (λ n. take n.shown n.first) s.seen.newcomers.items);
+    } };
 
-    ghost waiting = { λ s. array_vec_len s.newcomers };
-
-    ghost log = { λ s. s.log };
-
-    ghost clock = { λ s. s.clock };
-
-    ghost found = { λ s. Some (record {
-      ready = s.last.ready;
-      sends = s.last.sends;
-      ended = s.last.ended;
-    }) };
-
-    ghost shown = { λ s. Some (map (λ n. take n.shown n.first) s.newcomers.items) };
-
-    ghost shows_all = { λ s. length-map s.newcomers.items (λ n. take n.shown n.first) };
+    ghost shows_all = { λ s. length-map s.seen.newcomers.items (λ n. take n.shown n.first) };
 
     fn accept(&mut self) -> Accepted {
         self.apply_due();
@@ -487,7 +472,7 @@ impl Sockets for MemorySockets {
         }
         match self.backlog.pop_front() {
             Some(peer) => {
-                self.newcomers.push(Newcomer::new(peer));
+                self.seen.newcomers.push(Newcomer::new(peer));
                 Accepted::Came(address_of(peer))
             }
             None => Accepted::None,
@@ -495,7 +480,7 @@ impl Sockets for MemorySockets {
     }
 
     fn peek(&mut self, place: usize, octets: &mut [u8]) -> Peeked {
-        let mut newcomer = self.newcomers.as_slice()[place];
+        let mut newcomer = self.seen.newcomers.as_slice()[place];
         let Some(peer) = self.peers.get(newcomer.peer) else {
             return Peeked::Ended;
         };
@@ -518,47 +503,47 @@ impl Sockets for MemorySockets {
 
     #[tactic(auto, using(crate::proofs::ShownLemmas::map_removed))]
     fn refuse(&mut self, place: usize) {
-        self.newcomers.remove(place);
+        self.seen.newcomers.remove(place);
     }
 
     #[tactic(auto, using(crate::proofs::ShownLemmas::map_removed))]
     fn take(&mut self, place: usize) -> io::Result<()> {
-        let peer = self.newcomers.remove(place).peer;
-        self.connection = Some(peer);
+        let peer = self.seen.newcomers.remove(place).peer;
+        self.seen.connection = Some(peer);
         self.note_change(peer, false);
-        self.log.add(RecordEntry::Connect(Connect::Ready), &[]);
+        self.seen.log.add(RecordEntry::Connect(Connect::Ready), &[]);
         Ok(())
     }
 
     fn read(&mut self, octets: &mut [u8]) -> Got {
         let got = self.answer_read(octets);
-        self.log.add(RecordEntry::Read(got), octets);
+        self.seen.log.add(RecordEntry::Read(got), octets);
         got
     }
 
     fn write(&mut self, octets: &[u8]) -> Put {
         let put = self.answer_write(octets);
-        self.log.add(RecordEntry::Write(put), octets);
+        self.seen.log.add(RecordEntry::Write(put), octets);
         put
     }
 
     fn close(&mut self) {
-        self.connection = None;
+        self.seen.connection = None;
         self.reads.connection = false;
         self.reads.input_closed = false;
         self.writes = false;
     }
 
     fn now(&mut self) -> u64 {
-        self.clock
+        self.seen.clock
     }
 
     fn wait(&mut self, milliseconds: u64, sends: bool) -> Ready {
         let ready = self.find(milliseconds, sends);
-        self.last = Last {
+        self.seen.last = Last {
             ready,
             sends,
-            ended: self.clock,
+            ended: self.seen.clock,
         };
         ready
     }

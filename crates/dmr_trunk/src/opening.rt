@@ -1,7 +1,6 @@
 //! Opening what the first term of a site runs with: its polls, its ports, its clock and its site.
 
 ghost use Rattle.std.specs.Prelude.{◌≡◌, ◌++◌, ◌∷◌, [], ◌*◌, ℕ, IfOk, List, None, Ok, OnOk, vec_len};
-ghost use Rattle.dmr_port.specs.declared.whose.Whose.TheVariants.{Console};
 ghost use Rattle.dmr_desk.specs.Refusing.{carrier_numbers};
 ghost use Rattle.dmr_desk.specs.Terms.{Fits};
 ghost use Rattle.dmr_trunk.specs.Faults.{fault_of_listening};
@@ -235,7 +234,7 @@ fn open_listening<'a, R: Net + Log + Clock>(
     requires { stations.old.items ≡ [] }
     ensures stations { OnOk result
         (AreNewStations plan.now (carrier_numbers plan.now) stations.new.items) }
-    ensures console { IfOk result (IsNewPort plan.now Console) }
+    ensures console { IfOk result (IsNewPort plan.now Whose.Console) }
 {
     fill_stations(rt, alloc, polls, plan, stations)?;
     open_port(rt, alloc, polls, plan, Whose::Console, plan.console_port())

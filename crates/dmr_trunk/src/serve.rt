@@ -188,7 +188,8 @@ where
         service.now.site.plan service.now.site.facts.registered script rest.1.recording) }
 {
     let books = open_books(rt, alloc, &service.site, keeper)?;
-    beside(books, observe(rt, alloc, wakers, service, script))
+    let (books, observer) = beside(books, observe(rt, alloc, wakers, service, script))?;
+    Ok((books, observer))
 }
 
 /// What remains when serving has ended.

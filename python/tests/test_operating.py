@@ -12,7 +12,7 @@ FORMATS = read_document("FORMATS.md")
 
 
 def lines_of(cell: str) -> str:
-    """A pattern for the lines that a reply of docs/FORMATS.md may have: those in backticks, of which each word in capitals stands for a number or a state."""
+    """A pattern for the lines that a reply of docs/FORMATS.md may have: those in backticks. A word in capitals is a number or a state."""
     said, _, states = cell.partition("STATE is")
     words = {"STATE": f"({'|'.join(states.split('`')[1::2])})", "..": ".*"}
     return "|".join(" ".join(words.get(it, r"\d+" if it.isupper() else it) for it in line.split()) for line in said.split("`")[1::2])

@@ -1,5 +1,5 @@
-"""A file of records that a served controller cannot use, or cannot write for a while, or carries
-over from the version before, and how many rows the file keeps (docs/RECORDS.md). All of it is skipped if the
+"""A file of records that a served controller cannot use, cannot write for a while, or carries over
+from the version before; and how many rows it keeps (docs/RECORDS.md). All of it is skipped if the
 program was not built."""
 import pathlib
 import resource
@@ -210,8 +210,8 @@ class CarriedOver(Played):
         return {it: self.rows(f"SELECT * FROM {it} ORDER BY 1") for it in tables}
 
     def expect_first_rows(self, term: int = 0) -> None:
-        """The rows of the version before are there, and the columns that it does not have are NULL. Others
-        are of this term."""
+        """The rows of the version before are there, and the columns that it does not have are
+        NULL. Others are of this term."""
         for table, rows in self.contents().items():
             wanted = self.first[table]
             if table == "calls":

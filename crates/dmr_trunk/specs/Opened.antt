@@ -1,5 +1,5 @@
 -- What serving opens: the ports of a plan, its stations, and the service with which its first term begins.
-use Rattle.std.specs.Prelude.{◌≡◌, ◌*◌, ℕ, List, [], ◌∷◌, ◌++◌, None, IsSomeAnd, if◌then◌else◌}
+use Rattle.std.specs.Prelude.{◌≡◌, ◌*◌, ℕ, List, [], ◌∷◌, ◌++◌, false, None, IsSomeAnd, if◌then◌else◌}
 use Rattle.dmr_plan.specs.declared.carriers.CarrierRow.{CarrierRow}
 use Rattle.dmr_plan.specs.declared.settings.Settings.{Settings}
 use Rattle.dmr_plan.specs.Carriers.{row_with}
@@ -23,12 +23,19 @@ use Rattle.dmr_desk.specs.Service.{start_at}
 use Rattle.dmr_desk.specs.Term.{Start}
 use Rattle.dmr_trunk.specs.declared.pacer.ClockPacer.{ClockPacer}
 
--- the plan's port for this owner, as it is opened: it has done nothing. Its sockets keep no log and know no finding,
--- and nobody sees its answers
+-- the plan's port for this owner, as it is opened: it has done nothing. Its sockets know nothing but a time, and nobody
+-- sees its answers
 abbrev pub IsNewPort : Settings → Whose → PortState NoWitness → Type 0
 IsNewPort plan owner port =
     port ≡ empty_port (record { whose = owner; greatest = greatest_of plan; silence = plan.silence })
-    None port.clock None None (record {})
+    (record {
+      is_open = false;
+      waiting = 0;
+      log = None;
+      clock = port.clock;
+      found = None;
+      shown = None;
+    }) (record {})
 
 -- a link of this peer that has had no connection
 pub record IsNewLink (peer : Peer) (link : LinkState) : Type 0 where

@@ -266,9 +266,7 @@ impl<'a, R: Clock> MioSockets<'a, R> {
     /// Keeps what an accept that found no connection says about the next one.
     fn turn_away(&mut self, error: io::Error) -> Accepted
         ensures none { (count : ℕ) → waiting_after count result ≡ count }
-        ensures newcomers { vec_len self.new.newcomers ≡ vec_len self.old.newcomers }
-        ensures connection { self.new.connection ≡ self.old.connection }
-        ensures clock { self.new.now ≡ self.old.now }
+        ensures rest { self.new ≡ record self.old { backlog = self.new.backlog } }
     {
         match error.kind() {
             ErrorKind::WouldBlock => {
@@ -290,9 +288,7 @@ impl<'a, R: Clock> MioSockets<'a, R> {
     /// that.
     #[inline(never)]
     fn poll_connection(&mut self, sends: bool) -> bool
-        ensures newcomers { vec_len self.new.newcomers ≡ vec_len self.old.newcomers }
-        ensures connection { self.new.connection ≡ self.old.connection }
-        ensures clock { self.new.now ≡ self.old.now }
+        ensures { self.new ≡ record self.old { sends = self.new.sends } }
     {
         let Some(stream) = &mut self.connection else {
             return true;
@@ -324,9 +320,7 @@ impl<'a, R: Clock> MioSockets<'a, R> {
 
     /// Waits for the poll, at most this many milliseconds.
     fn wait_for_events(&mut self, milliseconds: u64) -> (Ready, bool)
-        ensures newcomers { vec_len self.new.newcomers ≡ vec_len self.old.newcomers }
-        ensures connection { self.new.connection ≡ self.old.connection }
-        ensures clock { self.new.now ≡ self.old.now }
+        ensures { self.new ≡ record self.old { poll = self.new.poll; events = self.new.events } }
     {
         let most = Duration::from_millis(milliseconds);
         match self.poll.poll(&mut self.events, Some(most)) {
@@ -343,17 +337,14 @@ impl<'a, R: Clock> MioSockets<'a, R> {
 impl<R: Clock> Sockets for MioSockets<'_, R> {
     ghost use Rattle.std.specs.Prelude.{None, is_some, vec_len};
 
-    ghost is_open = { λ s. is_some s.connection };
-
-    ghost waiting = { λ s. vec_len s.newcomers };
-
-    ghost log = { λ s. None };
-
-    ghost clock = { λ s. s.now };
-
-    ghost found = { λ s. None };
-
-    ghost shown = { λ s. None };
+    ghost state = { λ s. record {
+      is_open = is_some s.connection;
+      waiting = vec_len s.newcomers;
+      log = None;
+      clock = s.now;
+      found = None;
+      shown = None;
+    } };
 
     ghost shows_all = { λ s. tt };
 

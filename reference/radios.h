@@ -160,28 +160,25 @@ static inline uint32_t any_registered(const Site *s) {
     return radio ? radio : 1;
 }
 
-/* Writes a command that fits the state of the site. How many octets it has. */
-static inline int write_command(char *line, const Site *s, const Scene *scene, Mode mode) {
-    int slot = any_slot(s);
-    switch (below(17)) {
-    case 0:
-    case 1: return sprintf(line, "status");
-    case 2:
-    case 3: return sprintf(line, "radios %u", (unsigned)below(8100));
-    case 4: return sprintf(line, "radios %u", (unsigned)below(1 << 24));
-    case 5:
-    case 6: return sprintf(line, "calls %u", (unsigned)below(CARRIERS));
-    case 7: return sprintf(line, "calls %d", slot / 2);
-    case 8: return sprintf(line, "lines %02u", 1 + (unsigned)(chance(2) ? below(LIST_ROOM) : below(s->line_count)));
-    case 9:
-    case 10: return sprintf(line, "  slots");
-    case 11: return sprintf(line, "drop %08u", (unsigned)(chance(4) ? any_radio(scene, mode) : any_engaged(s, scene, mode).source));
-    case 12: return sprintf(line, "drop %u", (unsigned)any_registered(s));
-    case 13:
-    case 14: return sprintf(line, "end %d  %d", slot / 2, slot & 1);
-    case 15: return sprintf(line, "move %u ", 1 + (unsigned)below(4094));
-    default: return sprintf(line, "stay");
+/* A number of a command that fits the state of the site. */
+static inline uint32_t any_number(NumberKind kind, int slot, const Site *s, const Scene *scene, Mode mode) {
+    switch (kind) {
+    case FROM_RADIO: return below(chance(3) ? 1 << 24 : 8100);
+    case OF_RADIO: return chance(2) ? any_registered(s) : chance(4) ? any_radio(scene, mode) : any_engaged(s, scene, mode).source;
+    case OF_CARRIER: return chance(3) ? (int)below(CARRIERS) : slot / 2;
+    case OF_SIDE: return slot & 1;
+    case OF_LINE: return 1 + (chance(2) ? below(LIST_ROOM) : below(s->line_count));
+    default: return 1 + below(4094);
     }
+}
+
+/* Writes a command. How many octets it has. */
+static inline int write_command(char *line, const Site *s, const Scene *scene, Mode mode) {
+    const Command *it = &COMMANDS[below(COMMAND_COUNT)];
+    int slot = any_slot(s), count = sprintf(line, "%*s%s", chance(4) ? 2 : 0, "", it->name);
+    for (int i = 0; i < it->count; i++)
+        count += sprintf(line + count, chance(4) ? "  %08u" : " %u", (unsigned)any_number(it->numbers[i], slot, s, scene, mode));
+    return count;
 }
 
 #endif

@@ -9,7 +9,7 @@
 #include "site_machine.h"
 #include <stdio.h>
 
-enum { REPLY_OCTETS = 1024, LISTED_AT_ONCE = 16, MOST_DIGITS = 8, MOST_WORDS = 4 };
+enum { REPLY_OCTETS = 1024, LISTED_AT_ONCE = 16, MOST_DIGITS = 8, MOST_WORDS = 4, MOST_NUMBERS = 2 };
 
 /* Writes a text, and returns its end. */
 #define PRINT(out, ...) ((out) + sprintf((char *)(out), __VA_ARGS__))
@@ -26,7 +26,8 @@ static inline uint8_t *write_parties(uint8_t *out, bool group, uint32_t target, 
     return PRINT(out, "%s %u from %u\n", group ? "group" : "radio", (unsigned)target, (unsigned)source);
 }
 
-static inline uint8_t *reply_status(const Site *s, uint8_t *out) {
+static inline uint8_t *reply_status(Site *s, const uint32_t *numbers, uint8_t *out) {
+    (void)numbers;
     int up = __builtin_popcount(s->up & s->plan.listed);
     REACHED(s->moved_to ? STATUS_MOVE : STATUS_ALOHA);
     out = PRINT(out, "status carriers %d radios %d asks %d lines %d calls %d fill ", up, s->radio_count, s->ask_count, s->line_count, s->call_count);
@@ -41,8 +42,8 @@ static inline uint32_t next_radio(const Site *s, uint32_t from) {
     return least;
 }
 
-static inline uint8_t *reply_radios(const Site *s, uint32_t from, uint8_t *out) {
-    uint32_t radio = next_radio(s, from);
+static inline uint8_t *reply_radios(Site *s, const uint32_t *from, uint8_t *out) {
+    uint32_t radio = next_radio(s, *from);
     int listed = 0;
     for (; radio && listed < LISTED_AT_ONCE; listed++) {
         out = PRINT(out, "radio %u\n", (unsigned)radio);
@@ -52,7 +53,8 @@ static inline uint8_t *reply_radios(const Site *s, uint32_t from, uint8_t *out) 
     return PRINT(out, "end\n");
 }
 
-static inline uint8_t *reply_calls(const Site *s, uint32_t carrier, uint8_t *out) {
+static inline uint8_t *reply_calls(Site *s, const uint32_t *numbers, uint8_t *out) {
+    uint32_t carrier = *numbers;
     bool any = false;
     if (!is_listed(s, carrier)) {
         REACHED(CALLS_NO_CARRIER);
@@ -69,7 +71,8 @@ static inline uint8_t *reply_calls(const Site *s, uint32_t carrier, uint8_t *out
     return PRINT(out, "end\n");
 }
 
-static inline uint8_t *reply_lines(const Site *s, int from, uint8_t *out) {
+static inline uint8_t *reply_lines(Site *s, const uint32_t *numbers, uint8_t *out) {
+    int from = *numbers;
     if (from > s->line_count) REACHED(LINES_NONE);
     for (int place = from; place <= s->line_count && place < from + LISTED_AT_ONCE; place++) {
         const Line *line = &s->lines[place - 1];
@@ -88,13 +91,15 @@ static inline const char *state_of(const Site *s, int slot) {
     return REACHED(SLOTS_FREE), "free";
 }
 
-static inline uint8_t *reply_slots(const Site *s, uint8_t *out) {
+static inline uint8_t *reply_slots(Site *s, const uint32_t *numbers, uint8_t *out) {
+    (void)numbers;
     for (int slot = 0; slot < SLOTS; slot++)
         if (is_listed(s, slot / 2)) out = PRINT(out, "slot %d %d %s\n", slot / 2, slot & 1, state_of(s, slot));
     return PRINT(out, "end\n");
 }
 
-static inline uint8_t *drop_radio(Site *s, uint32_t radio, uint8_t *out) {
+static inline uint8_t *drop_radio(Site *s, const uint32_t *numbers, uint8_t *out) {
+    uint32_t radio = *numbers;
     if (!is_registered(s, radio)) {
         REACHED(DROP_STRANGER);
         return PRINT(out, "error not registered\n");
@@ -109,7 +114,8 @@ static inline uint8_t *drop_radio(Site *s, uint32_t radio, uint8_t *out) {
     return PRINT(out, "ok\n");
 }
 
-static inline uint8_t *end_call_on(Site *s, uint32_t carrier, int side, uint8_t *out) {
+static inline uint8_t *end_call_on(Site *s, const uint32_t *numbers, uint8_t *out) {
+    uint32_t carrier = numbers[0], side = numbers[1];
     const Call *call = is_listed(s, carrier) ? call_on(s, 2 * carrier + side) : 0;
     if (!is_listed(s, carrier)) {
         REACHED(END_NO_CARRIER);
@@ -144,40 +150,52 @@ static inline uint8_t *reply_unknown(uint8_t *out) {
     return PRINT(out, "error unknown command\n");
 }
 
-static inline uint8_t *reply_move(Site *s, int channel, uint8_t *out) {
-    REACHED(channel ? MOVE_DONE : STAY_DONE);
-    s->moved_to = channel;
+/* The control channel moves to a channel, or stays, with the number 0. */
+static inline uint8_t *reply_move(Site *s, const uint32_t *channel, uint8_t *out) {
+    REACHED(*channel ? MOVE_DONE : STAY_DONE);
+    s->moved_to = *channel;
     return PRINT(out, "ok\n");
 }
 
-/* Does what a command of one word says. */
-static inline uint8_t *obey_word(Site *s, const char *command, uint8_t *out) {
-    if (!strcmp(command, "status")) return reply_status(s, out);
-    if (!strcmp(command, "slots")) return reply_slots(s, out);
-    if (!strcmp(command, "stay")) return reply_move(s, 0, out);
-    return reply_unknown(out);
-}
+/* What a number of a command is, with its least and its greatest value. */
+typedef enum { FROM_RADIO, OF_RADIO, OF_CARRIER, OF_SIDE, OF_LINE, OF_CHANNEL } NumberKind;
+static const uint32_t RANGES[][2] = {{0, 0xFFFFFF}, {1, 0xFFFFFF}, {0, CARRIERS - 1}, {0, 1}, {1, LIST_ROOM}, {1, 4094}};
 
-/* Does what a command with a number says. */
-static inline uint8_t *obey_number(Site *s, const char *command, const char *word, uint8_t *out) {
-    uint32_t number;
-    if (!strcmp(command, "radios") && read_number(word, 0, 0xFFFFFF, &number)) return reply_radios(s, number, out);
-    if (!strcmp(command, "calls") && read_number(word, 0, CARRIERS - 1, &number)) return reply_calls(s, number, out);
-    if (!strcmp(command, "lines") && read_number(word, 1, LIST_ROOM, &number)) return reply_lines(s, number, out);
-    if (!strcmp(command, "drop") && read_number(word, 1, 0xFFFFFF, &number)) return drop_radio(s, number, out);
-    if (!strcmp(command, "move") && read_number(word, 1, 4094, &number)) return reply_move(s, number, out);
-    return reply_unknown(out);
+/* A command: its name, the numbers that follow it, and its answer. */
+typedef struct {
+    const char *name;
+    int count;
+    NumberKind numbers[MOST_NUMBERS];
+    uint8_t *(*answer)(Site *s, const uint32_t *numbers, uint8_t *out);
+} Command;
+
+static const Command COMMANDS[] = {
+    {"status", 0, {0}, reply_status},
+    {"radios", 1, {FROM_RADIO}, reply_radios},
+    {"calls", 1, {OF_CARRIER}, reply_calls},
+    {"lines", 1, {OF_LINE}, reply_lines},
+    {"slots", 0, {0}, reply_slots},
+    {"drop", 1, {OF_RADIO}, drop_radio},
+    {"end", 2, {OF_CARRIER, OF_SIDE}, end_call_on},
+    {"move", 1, {OF_CHANNEL}, reply_move},
+    {"stay", 0, {0}, reply_move},
+};
+enum { COMMAND_COUNT = sizeof COMMANDS / sizeof *COMMANDS };
+
+/* Reads the numbers of a command from the words after its name. Whether they are as many, and each in its range. */
+static inline bool read_numbers(const Command *it, char **words, int count, uint32_t *numbers) {
+    bool are_read = count == it->count;
+    for (int i = 0; i < it->count && are_read; i++) are_read = read_number(words[i], RANGES[it->numbers[i]][0], RANGES[it->numbers[i]][1], &numbers[i]);
+    return are_read;
 }
 
 /* Takes a line without its end, in which a 0 ends the text. */
 static inline uint8_t *take_line(Site *s, char *line, uint8_t *out) {
     char *words[MOST_WORDS];
-    uint32_t carrier, side;
+    uint32_t numbers[MOST_NUMBERS] = {0};
     int count = split_line(line, words);
-    if (count == 1) return obey_word(s, words[0], out);
-    if (count == 2) return obey_number(s, words[0], words[1], out);
-    if (count == 3 && !strcmp(words[0], "end") && read_number(words[1], 0, CARRIERS - 1, &carrier) && read_number(words[2], 0, 1, &side))
-        return end_call_on(s, carrier, side, out);
+    for (const Command *it = COMMANDS; count && it < COMMANDS + COMMAND_COUNT; it++)
+        if (!strcmp(words[0], it->name) && read_numbers(it, words + 1, count - 1, numbers)) return it->answer(s, numbers, out);
     return reply_unknown(out);
 }
 

@@ -12,6 +12,7 @@ from collections.abc import Callable
 from temzaar.cli import archive, callbook, report
 from temzaar.hub.newrecords import SUMMED, read_new
 from temzaar.records import VERSION
+from temzaar.siteevents import COMMANDS
 from tests.made_records import NOON, insert, make_records, opened
 from tests.support import TOP, FolderCase, call_tool, queries_of, read_document, table_rows
 from tests.worked_session import CALLS, EVENTS, REGISTRATIONS, RUNS, Columns, Session
@@ -120,7 +121,8 @@ class Documented(FolderCase):
         self.assertEqual(causes, {cause for *_, cause in CALLS})
         kinds = {word for row in table_rows(self.document, "| kind |")
                  for word in row[0].split(", ")}
-        self.assertEqual(kinds, {kind for _, _, kind, *_ in EVENTS})
+        commands = {kind for kind in COMMANDS if "NAME_command" in kinds}
+        self.assertEqual(kinds - {"NAME_command"} | commands, {kind for _, _, kind, *_ in EVENTS} | commands)
 
     def test_queries(self) -> None:
         """They answer over made records, and run over the tables of the crate."""

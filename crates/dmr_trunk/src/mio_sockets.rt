@@ -204,6 +204,8 @@ fn found(events: &Events) -> (Ready, bool) {
 }
 
 impl<'a, R: Clock> MioSockets<'a, R> {
+    ghost use Rattle.dmr_trunk.specs.Sockets.{KeepsSockets};
+
     /// Listens at an address, with a poll and the wakers of all. There is no newcomer and no connection.
     pub fn listen(
         rt: &'a R,
@@ -266,9 +268,7 @@ impl<'a, R: Clock> MioSockets<'a, R> {
     /// Keeps what an accept that found no connection says about the next one.
     fn turn_away(&mut self, error: io::Error) -> Accepted
         ensures none { (count : ℕ) → waiting_after count result ≡ count }
-        ensures newcomers { vec_len self.new.newcomers ≡ vec_len self.old.newcomers }
-        ensures connection { self.new.connection ≡ self.old.connection }
-        ensures clock { self.new.now ≡ self.old.now }
+        ensures rest { KeepsSockets self.old self.new }
     {
         match error.kind() {
             ErrorKind::WouldBlock => {
@@ -290,9 +290,7 @@ impl<'a, R: Clock> MioSockets<'a, R> {
     /// that.
     #[inline(never)]
     fn poll_connection(&mut self, sends: bool) -> bool
-        ensures newcomers { vec_len self.new.newcomers ≡ vec_len self.old.newcomers }
-        ensures connection { self.new.connection ≡ self.old.connection }
-        ensures clock { self.new.now ≡ self.old.now }
+        ensures { KeepsSockets self.old self.new }
     {
         let Some(stream) = &mut self.connection else {
             return true;
@@ -324,9 +322,7 @@ impl<'a, R: Clock> MioSockets<'a, R> {
 
     /// Waits for the poll, at most this many milliseconds.
     fn wait_for_events(&mut self, milliseconds: u64) -> (Ready, bool)
-        ensures newcomers { vec_len self.new.newcomers ≡ vec_len self.old.newcomers }
-        ensures connection { self.new.connection ≡ self.old.connection }
-        ensures clock { self.new.now ≡ self.old.now }
+        ensures { KeepsSockets self.old self.new }
     {
         let most = Duration::from_millis(milliseconds);
         match self.poll.poll(&mut self.events, Some(most)) {
@@ -343,17 +339,14 @@ impl<'a, R: Clock> MioSockets<'a, R> {
 impl<R: Clock> Sockets for MioSockets<'_, R> {
     ghost use Rattle.std.specs.Prelude.{None, is_some, vec_len};
 
-    ghost is_open = { λ s. is_some s.connection };
-
-    ghost waiting = { λ s. vec_len s.newcomers };
-
-    ghost log = { λ s. None };
-
-    ghost clock = { λ s. s.now };
-
-    ghost found = { λ s. None };
-
-    ghost shown = { λ s. None };
+    ghost state = { λ s. record {
+      is_open = is_some s.connection;
+      waiting = vec_len s.newcomers;
+      log = None;
+      clock = s.now;
+      found = None;
+      shown = None;
+    } };
 
     ghost shows_all = { λ s. tt };
 

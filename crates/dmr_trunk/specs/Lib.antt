@@ -6,3 +6,4 @@ pub mod Scripts
 pub mod Stored
 pub mod Served
 pub mod Restart
+pub mod Sockets

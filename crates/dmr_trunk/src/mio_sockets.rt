@@ -204,6 +204,8 @@ fn found(events: &Events) -> (Ready, bool) {
 }
 
 impl<'a, R: Clock> MioSockets<'a, R> {
+    ghost use Rattle.dmr_trunk.specs.Sockets.{KeepsSockets};
+
     /// Listens at an address, with a poll and the wakers of all. There is no newcomer and no connection.
     pub fn listen(
         rt: &'a R,
@@ -266,7 +268,7 @@ impl<'a, R: Clock> MioSockets<'a, R> {
     /// Keeps what an accept that found no connection says about the next one.
     fn turn_away(&mut self, error: io::Error) -> Accepted
         ensures none { (count : ℕ) → waiting_after count result ≡ count }
-        ensures rest { self.new ≡ record self.old { backlog = self.new.backlog } }
+        ensures rest { KeepsSockets self.old self.new }
     {
         match error.kind() {
             ErrorKind::WouldBlock => {
@@ -288,7 +290,7 @@ impl<'a, R: Clock> MioSockets<'a, R> {
     /// that.
     #[inline(never)]
     fn poll_connection(&mut self, sends: bool) -> bool
-        ensures { self.new ≡ record self.old { sends = self.new.sends } }
+        ensures { KeepsSockets self.old self.new }
     {
         let Some(stream) = &mut self.connection else {
             return true;
@@ -320,7 +322,7 @@ impl<'a, R: Clock> MioSockets<'a, R> {
 
     /// Waits for the poll, at most this many milliseconds.
     fn wait_for_events(&mut self, milliseconds: u64) -> (Ready, bool)
-        ensures { self.new ≡ record self.old { poll = self.new.poll; events = self.new.events } }
+        ensures { KeepsSockets self.old self.new }
     {
         let most = Duration::from_millis(milliseconds);
         match self.poll.poll(&mut self.events, Some(most)) {

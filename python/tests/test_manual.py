@@ -209,24 +209,15 @@ class Options(unittest.TestCase):
         self.assertEqual((done.returncode, done.stdout), (2, ""))
         self.compare("dmr_trunk.8", options_of(done.stderr))
 
-    def test_of_the_controller_in_its_source(self) -> None:
-        self.assertCountEqual([entry.tags[0] for entry in entries_of(sections_of("dmr_trunk.8")["OPTIONS"])], ["--site FILE", "--script FILE", "--serve", "--terms N", "-h, --help", "-V, --version"])
-
-    def compare_commands(self, text: str) -> None:
-        """The page has the decoder's commands of a text, and what it says of them."""
+    def test_of_the_decoder(self) -> None:
+        """The page has the decoder's commands, and what it says of them."""
+        text = subprocess.run([program("dmr_decode"), "--help"], capture_output=True, text=True, check=True).stdout
         commands = dict(re.findall(r"^  dmr_decode (\S+(?: [A-Z.]+)?)  +(\S.*)$", text, re.M))
         self.assertEqual(len(commands), 8)
         entries = {entry.tags[0]: entry.text.replace("`", "") for entry in entries_of(sections_of("dmr_decode.1")["COMMANDS"])}
         self.assertEqual(set(entries), set(commands))
         for command, said in commands.items():
             self.assertTrue(says(entries[command], said.replace("`", "")), f"{command}: {entries[command]} / {said}")
-
-    def test_of_the_decoder_in_its_source(self) -> None:
-        text = (TOP / "crates/dmr_decode/src/main.rt").read_text(encoding="utf-8")
-        self.compare_commands(text[:text.index('";\n')])
-
-    def test_of_the_decoder(self) -> None:
-        self.compare_commands(subprocess.run([program("dmr_decode"), "--help"], capture_output=True, text=True, check=True).stdout)
 
 
 class Statuses(unittest.TestCase):
@@ -286,13 +277,3 @@ class SiteFile(FolderCase):
         words = [built, "--site", self.write("site.toml", text), "--script", os.devnull]
         done = subprocess.run(words, capture_output=True, text=True, check=False)
         self.assertEqual((done.returncode, done.stdout, done.stderr), (0, "carrier 0 -\ncarrier 1 -\n", ""))
-
-
-class Console(unittest.TestCase):
-    """The commands of the consoles."""
-
-    def test_commands(self) -> None:
-        wanted = [row[0] for row in table_rows(read_document("FORMATS.md"), "## Console")]
-        self.assertEqual([entry.tags[0] for entry in entries_of(sections_of("dmr_trunk.8")["CONSOLE"])], wanted)
-        own = [row[0].split()[0].rstrip(",") for row in table_rows(read_document("HUB.md"), "| line | reply")]
-        self.assertEqual([entry.tags[0].split()[0] for entry in entries_of(sections_of("dmr_hub.8")["CONSOLE"])], own)

@@ -3,7 +3,6 @@ import os
 import pathlib
 import re
 import subprocess
-import tomllib
 import unittest
 from collections.abc import Iterator
 
@@ -36,10 +35,6 @@ class Example(unittest.TestCase):
 
     def test_the_document_names_it(self) -> None:
         self.assertIn(f"`{os.path.basename(TWO_CARRIERS)}`", SITE_FILE)
-
-    def test_every_key_is_in_the_table(self) -> None:
-        keys = {row[0] for row in table_rows(SITE_FILE, "| key | value | if missing")}
-        self.assertLessEqual(set(tomllib.loads(example())), keys)
 
 
 class Texts(FolderCase):

@@ -62,7 +62,7 @@ def notes() -> dict[str, str]:
     # a note that somebody waits says for whom, in the program's own words
     of_ports.remove("{from} waits, {count} waiting")
     found |= {"{whose}: " + note: "WARN" if note.startswith("cannot") else "INFO" for note in of_ports}
-    counts = written(function(source("dmr_trunk/src/term_log.rt"), "impl fmt::Display for TermCounts"))
+    counts = written(function(source("dmr_trunk/src/term_log.rt"), "impl fmt::Display for Happened"))
     # of several terms the counts have a name in the document, and of one their own form
     return {note.replace("{term}", counts).replace("{terms}", "{counts}"): level for note, level in found.items()}
 

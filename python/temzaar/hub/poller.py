@@ -71,7 +71,8 @@ class Poller:
 
     async def _poll_radios(self) -> None:
         """Lists the registered radios."""
-        self.model.take_radios(await self._ask_all(ask_radios(MOST_RADIOS)), Moment.now())
+        radios = await self._ask_all(ask_radios(MOST_RADIOS))
+        self.model.take_radios(radios, Moment.now())
 
     async def _ask_all(self, questions: Generator[str, list[str], Answer]) -> Answer:
         """Asks question after question, and what they amount to. NoAnswer, ConsoleFault: one of them failed."""

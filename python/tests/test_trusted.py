@@ -118,3 +118,11 @@ class Trusted(FolderCase):
             self.assertIn("`one::smalls.alone`\n\n```\n    ensures alone { (n : ℕ) → IsSmall n ↔ n ≤ other }\n```\n", self.printed(True))
         with mock.patch.dict(tool.LAWS, {"one::IsSmall": ("one::smalls", "none")}), self.assertRaises(SystemExit):
             self.printed()
+
+    def test_more_than_a_reader_may_have_to_believe(self) -> None:
+        for most, lines, said in (
+                (2, 6, []),
+                (1, 6, ["one::count depends on 2 definitions, and may depend on 1"]),
+                (2, 5, ["the definitions have 6 lines, and may have 5"])):
+            with mock.patch.object(tool, "MOST", {"one::count": most}), mock.patch.object(tool, "MOST_LINES", lines):
+                self.assertEqual(list(tool.excesses(PAGE)), said)

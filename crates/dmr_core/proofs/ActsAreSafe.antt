@@ -133,10 +133,10 @@ first_none p [] x h k = cc
 first_none p (y ∷ ys) x h k = let same : y ≡ x = cc in rw (← same) (or_false (p y) (list_any p ys) k).0
 
 sent_own : (plan : Settings) (now : Facts) (there slot : Slot) (pdu : Pdu) (call : Call) → KnowsPlan plan → IsSound plan now → there.slot < 2 → slice_get (outbox now there) 0 ≡ Some pdu → call_on now.calls slot ≡ Some call → is_own plan call pdu ≡ true
-sent_own plan now there slot pdu call p h small first stands = either (is_slot there (control_slot plan)) refl
+sent_own plan now there slot pdu call p h small first stands = either (is_slot there (control_slot plan.lists)) refl
   where
-    either : (b : Bool) → is_slot there (control_slot plan) ≡ b → is_own plan call pdu ≡ true
-    either true e = first_own (is_own plan call) (outbox now there) pdu first (subst (λ (x : Slot). list_all (is_own plan call) (outbox now x) ≡ true) (sym (same_slot there (control_slot plan) e)) (h.own slot call stands))
+    either : (b : Bool) → is_slot there (control_slot plan.lists) ≡ b → is_own plan call pdu ≡ true
+    either true e = first_own (is_own plan call) (outbox now there) pdu first (subst (λ (x : Slot). list_all (is_own plan call) (outbox now x) ≡ true) (sym (same_slot there (control_slot plan.lists) e)) (h.own slot call stands))
     either false e = not_grant_own plan call pdu (first_none is_grant (outbox now there) pdu first (h.elsewhere there small e))
 
 grant_names : (plan : Settings) (call : Call) (late : Bool) → names (lpcn_of plan call.slot.carrier) call.slot.slot (grant_pdu plan call late) ≡ true

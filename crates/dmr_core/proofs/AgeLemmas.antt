@@ -250,8 +250,8 @@ asks_gone asks r t true h = tt
 asks_gone asks r t false h = no_tick (of r asks) t h
 
 ask_notes : (plan : Settings) (r : ℕ) → Notes plan (λ (f : Facts). of r f.asks) (λ event. false)
-ask_notes plan r now (Up c) t h = asks_gone now.asks r t (c == plan.control) h
-ask_notes plan r now (Lost c) t h = asks_gone now.asks r t (c == plan.control) h
+ask_notes plan r now (Up c) t h = asks_gone now.asks r t (c == plan.lists.control) h
+ask_notes plan r now (Lost c) t h = asks_gone now.asks r t (c == plan.lists.control) h
 ask_notes plan r now Tick t h = one_tick (of r (map ask_after_tick now.asks)) t (says_map (λ (a : ActiveAsk). a.waited) (λ (a : ActiveAsk). a.ask.source == r) ask_after_tick one_more (λ a. refl) (λ a e. refl) now.asks (min 65535 t) h)
 ask_notes plan r now _ t h = no_tick (of r now.asks) t h
 

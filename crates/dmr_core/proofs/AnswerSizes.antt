@@ -15,7 +15,7 @@ use Rattle.dmr_calls.specs.Lines.{first_line}
 use Rattle.dmr_calls.specs.Calls.{call_on, one_tick_older, is_slot}
 use Rattle.dmr_calls.specs.Engaged.{call_of, is_party}
 use Rattle.dmr_calls.specs.Due.{due_call}
-use Rattle.dmr_access.specs.Fill.{fill_of}
+use Rattle.dmr_core.specs.Rules.{next_fill}
 use Rattle.dmr_pool.specs.Free.{control_slot}
 use Rattle.dmr_core.specs.declared.request.Request.{Request}
 use Rattle.dmr_core.specs.declared.event.Event.{Event}
@@ -49,13 +49,13 @@ few-append plan xs ys a b c d e f h k = record {
 few-within : (plan : Settings) (xs : List Act) (a b c d e f : ℕ) → AreFewActs plan xs a b c → a ≤ d → b ≤ e → c ≤ f → AreFewActs plan xs d e f
 few-within plan xs a b c d e f h x y z = record { size = omega (arith, h.size); waiting = omega (arith, h.waiting); apart = omega (arith, h.apart) }
 
-copies_there : (n : ℕ) (plan : Settings) (slot : Slot) (pdu : Pdu) → is_slot slot (control_slot plan) ≡ true → AreFewActs plan (replicate n (Queue slot pdu)) n n 0
+copies_there : (n : ℕ) (plan : Settings) (slot : Slot) (pdu : Pdu) → is_slot slot (control_slot plan.lists) ≡ true → AreFewActs plan (replicate n (Queue slot pdu)) n n 0
 copies_there zero plan slot pdu e = record { size = omega arith; waiting = omega arith; apart = omega arith }
 copies_there (suc n) plan slot pdu e =
     let h : AreFewActs plan (replicate n (Queue slot pdu)) n n 0 = copies_there n plan slot pdu e in
     record { size = omega (arith, h.size); waiting = rw e (omega (arith, h.waiting)); apart = rw e (omega (arith, h.apart)) }
 
-copies_elsewhere : (n : ℕ) (plan : Settings) (slot : Slot) (pdu : Pdu) → is_slot slot (control_slot plan) ≡ false → AreFewActs plan (replicate n (Queue slot pdu)) n 0 n
+copies_elsewhere : (n : ℕ) (plan : Settings) (slot : Slot) (pdu : Pdu) → is_slot slot (control_slot plan.lists) ≡ false → AreFewActs plan (replicate n (Queue slot pdu)) n 0 n
 copies_elsewhere zero plan slot pdu e = record { size = omega arith; waiting = omega arith; apart = omega arith }
 copies_elsewhere (suc n) plan slot pdu e =
     let h : AreFewActs plan (replicate n (Queue slot pdu)) n 0 n = copies_elsewhere n plan slot pdu e in
@@ -64,8 +64,8 @@ copies_elsewhere (suc n) plan slot pdu e =
 none_few : (plan : Settings) (a b c : ℕ) → AreFewActs plan [] a b c
 none_few plan a b c = record { size = omega arith; waiting = omega arith; apart = omega arith }
 
-one_few : (plan : Settings) (pdu : Pdu) → AreFewActs plan (Queue (control_slot plan) pdu ∷ []) 1 1 0
-one_few plan pdu = copies_there 1 plan (control_slot plan) pdu (itself (control_slot plan))
+one_few : (plan : Settings) (pdu : Pdu) → AreFewActs plan (Queue (control_slot plan.lists) pdu ∷ []) 1 1 0
+one_few plan pdu = copies_there 1 plan (control_slot plan.lists) pdu (itself (control_slot plan.lists))
 
 -- an act that queues nothing, and then others
 plain_few : (plan : Settings) (act : Act) (acts : List Act) (a b c : ℕ) → on_control plan act ≡ 0 → elsewhere plan act ≡ 0 → AreFewActs plan acts a b c → AreFewActs plan (act ∷ acts) (a + 1) b c
@@ -73,7 +73,7 @@ plain_few plan act acts a b c x y h = record { size = omega (arith, h.size); wai
 
 grant_few : (plan : Settings) (call : Call) (late : Bool) → KnowsPlan plan → AreFewActs plan (grant plan call late) 4 4 0
 unfolding grant
-grant_few plan call late p = few-within plan (replicate plan.grant_copies (Queue (control_slot plan) (grant_pdu plan call late))) plan.grant_copies plan.grant_copies 0 4 4 0 (copies_there plan.grant_copies plan (control_slot plan) (grant_pdu plan call late) (itself (control_slot plan))) p.few_grants p.few_grants (omega arith)
+grant_few plan call late p = few-within plan (replicate plan.calls.grant_copies (Queue (control_slot plan.lists) (grant_pdu plan call late))) plan.calls.grant_copies plan.calls.grant_copies 0 4 4 0 (copies_there plan.calls.grant_copies plan (control_slot plan.lists) (grant_pdu plan call late) (itself (control_slot plan.lists))) p.few_grants p.few_grants (omega arith)
 
 begin_few : (plan : Settings) (call : Call) → KnowsPlan plan → AreFewActs plan (begin plan call) 5 4 0
 begin_few plan call p = plain_few plan (Began call) (grant plan call false) 4 4 0 refl refl (grant_few plan call false p)
@@ -81,10 +81,10 @@ begin_few plan call p = plain_few plan (Began call) (grant plan call false) 4 4 
 clear_few : (plan : Settings) (now : Facts) (call : Call) → KnowsPlan plan → IsSound plan now → call_on now.calls call.slot ≡ Some call → AreFewActs plan (clear plan call) 5 0 4
 unfolding clear
 clear_few plan now call p h stands =
-    let copies : List Act = replicate plan.clear_copies (Queue call.slot (Clear (lpcn_of plan plan.control) call.group call.target plan.tsi)) in
+    let copies : List Act = replicate plan.calls.clear_copies (Queue call.slot (Clear (lpcn_of plan plan.lists.control) call.group call.target plan.system.tsi)) in
     plain_few plan (Ended call.slot) copies 4 0 4 refl refl
-    (few-within plan copies plan.clear_copies 0 plan.clear_copies 4 0 4
-    (copies_elsewhere plan.clear_copies plan call.slot (Clear (lpcn_of plan plan.control) call.group call.target plan.tsi) (h.payload call.slot (call_is_active now.calls call.slot call stands).0).apart) p.few_clears (omega arith) p.few_clears)
+    (few-within plan copies plan.calls.clear_copies 0 plan.calls.clear_copies 4 0 4
+    (copies_elsewhere plan.calls.clear_copies plan call.slot (Clear (lpcn_of plan plan.lists.control) call.group call.target plan.system.tsi) (h.payload call.slot (call_is_active now.calls call.slot call stands).0).apart) p.few_clears (omega arith) p.few_clears)
 
 close_few : (plan : Settings) (now : Facts) (r : ℕ) → KnowsPlan plan → IsSound plan now → AreFewActs plan (close plan now r) 5 1 4
 unfolding close
@@ -203,7 +203,7 @@ ended_few : (plan : Settings) (now : Facts) → KnowsPlan plan → IsSound plan 
 unfolding acts_for_due_call
 ended_few plan now p h =
     let none : AreFewActs plan [] 5 0 4 = none_few plan 5 0 4 in
-    by_option (λ acts. AreFewActs plan acts 5 0 4) (λ (slot : Slot). option_map_or (λ (call : Call). clear plan call) (call_on now.calls slot) []) (due_call plan.hang plan.maximum now.calls) []
+    by_option (λ acts. AreFewActs plan acts 5 0 4) (λ (slot : Slot). option_map_or (λ (call : Call). clear plan call) (call_on now.calls slot) []) (due_call plan.calls.hang plan.calls.maximum now.calls) []
     (λ slot e. by_option (λ acts. AreFewActs plan acts 5 0 4) (λ (call : Call). clear plan call) (call_on now.calls slot) []
     (λ call k. clear_few plan now call p h (found_is_active (λ s. is_slot s.call.slot slot) now.calls call h.apart k)) none) none
 
@@ -218,7 +218,7 @@ tick_few plan now p h =
     (if_few plan (has_room plan now) (acts_for_due_ask plan now ++ acts_for_first_line plan now) 8 5 0 (few-append plan (acts_for_due_ask plan now) (acts_for_first_line plan now) 2 1 0 6 4 0 (repeat_few plan now) (serve_few plan now p)))
 
 sent_few : (plan : Settings) (now : Facts) (slot : Slot) (xs : List Pdu) → AreFewActs plan (acts_for_outbox plan now slot xs) 1 0 0
-sent_few plan now slot [] = if_few plan (is_slot slot (control_slot plan)) (Fill slot (fill_of plan now.moving now.noise now.fills (late_entry plan now)) ∷ []) 1 0 0 (plain_few plan _ [] 0 0 0 refl refl (none_few plan 0 0 0))
+sent_few plan now slot [] = if_few plan (is_slot slot (control_slot plan.lists)) (Fill slot (next_fill plan now) ∷ []) 1 0 0 (plain_few plan _ [] 0 0 0 refl refl (none_few plan 0 0 0))
 sent_few plan now slot (pdu ∷ pdus) = plain_few plan (Send slot pdu) [] 0 0 0 refl refl (none_few plan 0 0 0)
 
 polls_few : (plan : Settings) (now : Facts) (c : ℕ) → AreFewActs plan (acts_for_slot plan now (record { carrier = c; slot = 0 }) ++ acts_for_slot plan now (record { carrier = c; slot = 1 })) 2 0 0
@@ -244,7 +244,7 @@ commanded_few plan now _ p h = none_few plan 13 5 4
 
 -- the limits of the answer to each event
 pub acts_few : (plan : Settings) (now : Facts) (event : Event) → KnowsPlan plan → IsSound plan now → AreFewActs plan (acts_of plan now event) 13 5 4
-acts_few plan now (Heard slot pdu) p h = if_few plan (is_up now slot.carrier && (is_slot slot (control_slot plan) && has_room plan now)) (acts_for_pdu plan now pdu) 13 5 4 (few-within plan (acts_for_pdu plan now pdu) 7 5 4 13 5 4 (pdu_few plan now pdu p h) (omega arith) (omega arith) (omega arith))
+acts_few plan now (Heard slot pdu) p h = if_few plan (is_up now slot.carrier && (is_slot slot (control_slot plan.lists) && has_room plan now)) (acts_for_pdu plan now pdu) 13 5 4 (few-within plan (acts_for_pdu plan now pdu) 7 5 4 13 5 4 (pdu_few plan now pdu p h) (omega arith) (omega arith) (omega arith))
 acts_few plan now (Poll c) p h = if_few plan (is_up now c) _ 13 5 4 (few-within plan _ 2 0 0 13 5 4 (polls_few plan now c) (omega arith) (omega arith) (omega arith))
 acts_few plan now Tick p h = tick_few plan (record now { calls = map one_tick_older now.calls; asks = map ask_after_tick now.asks }) p (sound-noted plan now Tick p h)
 acts_few plan now (Say command) p h = commanded_few plan now command p h

@@ -64,31 +64,32 @@ poll_more (n ∷ ns) (suc k) c long small h =
     let f : (suc k == 0) ≡ false = not_zero k in
     rw (f, e) (ap (λ (m : ℕ). min 15 m) (one ∙ two) ∙ h k (omega arith))
 
-still_up : (plan : Settings) (up : List Bool) (d : ℕ) (there : Bool) → (d == plan.control) ≡ false → slice_index_or (if there then slice_set up d true else up) plan.control false ≡ true → slice_index_or up plan.control false ≡ true
-still_up plan up d true e k = sym (get_or-set_other up d plan.control true false (other_number plan.control d (flipped d plan.control e))) ∙ k
+still_up : (plan : Settings) (up : List Bool) (d : ℕ) (there : Bool) → (d == plan.lists.control) ≡ false → slice_index_or (if there then slice_set up d true else up) plan.lists.control false ≡ true → slice_index_or up plan.lists.control false ≡ true
+still_up plan up d true e k = sym (get_or-set_other up d plan.lists.control true false (other_number plan.lists.control d (flipped d plan.lists.control e))) ∙ k
 still_up plan up d false e k = k
 
-one_event : (plan : Settings) (now : Facts) (event : Event) (c : ℕ → ℕ) → (is_up now plan.control ≡ true → length now.noise ≡ 32) → (is_up now plan.control ≡ true → (j : ℕ) → j ≤ 31 → min 15 (sum (take (j + 1) now.noise)) ≡ min 15 (c j)) → (k : ℕ) → k ≤ 31 → slice_index_or (up_by_event plan now.up event) plan.control false ≡ true → min 15 (sum (take (k + 1) (noise_by_event plan now.noise event))) ≡ min 15 (noises_with_event plan k event c)
-one_event plan now (Up d) c window before k small up = either (d == plan.control) refl
+one_event : (plan : Settings) (now : Facts) (event : Event) (c : ℕ → ℕ) → (is_up now plan.lists.control ≡ true → length now.noise ≡ 32) → (is_up now plan.lists.control ≡ true → (j : ℕ) → j ≤ 31 → min 15 (sum (take (j + 1) now.noise)) ≡ min 15 (c j)) → (k : ℕ) → k ≤ 31 → slice_index_or (up_by_event plan now.up event) plan.lists.control false ≡ true → min 15 (sum (take (k + 1) (noise_by_event plan now.noise event))) ≡ min 15 (noises_with_event plan k event c)
+one_event plan now (Up d) c window before k small up = either (d == plan.lists.control) refl
   where
-    either : (b : Bool) → (d == plan.control) ≡ b → min 15 (sum (take (k + 1) (if b then noise_at_up else now.noise))) ≡ min 15 (if b then 0 else 0 + c k)
+    either : (b : Bool) → (d == plan.lists.control) ≡ b → min 15 (sum (take (k + 1) (if b then noise_at_up else now.noise))) ≡ min 15 (if b then 0 else 0 + c k)
     either true e = omega (arith, no_noise_at_up (k + 1))
     either false e = omega (arith, before (still_up plan now.up d (has_carrier plan d) e up) k small)
-one_event plan now (Lost d) c window before k small up = either (d == plan.control) refl
+one_event plan now (Lost d) c window before k small up = either (d == plan.lists.control) refl
   where
-    either : (b : Bool) → (d == plan.control) ≡ b → min 15 (sum (take (k + 1) (if b then [] else now.noise))) ≡ min 15 (0 + c k)
+    either : (b : Bool) → (d == plan.lists.control) ≡ b → min 15 (sum (take (k + 1) (if b then [] else now.noise))) ≡ min 15 (0 + c k)
     either true e =
-        let same : d ≡ plan.control = equal_numbers d plan.control e in
-        let yes : slice_index_or (slice_set now.up plan.control false) plan.control false ≡ true = rw same at up in
-        let no : slice_index_or (slice_set now.up plan.control false) plan.control false ≡ false = cleared now.up plan.control in
+        let same : d ≡ plan.lists.control = equal_numbers d plan.lists.control e in
+        let yes : slice_index_or (slice_set now.up plan.lists.control false) plan.lists.control false ≡ true = rw same at up in
+        let no : slice_index_or (slice_set now.up plan.lists.control false) plan.lists.control false ≡ false =
+        cleared now.up plan.lists.control in
         cc
-    either false e = omega (arith, before (sym (get_or-set_other now.up d plan.control false false (other_number plan.control d (flipped d plan.control e))) ∙ up) k small)
-one_event plan now (Noise slot) c window before k small up = either (is_control plan slot)
+    either false e = omega (arith, before (sym (get_or-set_other now.up d plan.lists.control false false (other_number plan.lists.control d (flipped d plan.lists.control e))) ∙ up) k small)
+one_event plan now (Noise slot) c window before k small up = either (is_control plan.lists slot)
   where
     either : (b : Bool) → min 15 (sum (take (k + 1) (if b then with_noise now.noise else now.noise))) ≡ min 15 ((if b then 1 else 0) + c k)
     either true = noise_more now.noise k (c k) (window up) (before up k small)
     either false = omega (arith, before up k small)
-one_event plan now (Poll d) c window before k small up = either (d == plan.control)
+one_event plan now (Poll d) c window before k small up = either (d == plan.lists.control)
   where
     either : (b : Bool) → min 15 (sum (take (k + 1) (if b then with_poll now.noise else now.noise))) ≡ min 15 (if b then (if k == 0 then 0 else c (k - 1)) else 0 + c k)
     either true = poll_more now.noise k c (window up) small (before up)
@@ -99,12 +100,12 @@ same_after : {X : Type 0} (acts : List Act) (x : X) → fold same_as_before x ac
 same_after [] x = refl
 same_after (act ∷ acts) x = same_after acts x
 
-counts : (plan : Settings) (facts : Facts) (journal : List Entry) → IsPlan plan → IsSound plan facts → IsLegal plan facts journal → is_up (facts_after plan facts journal) plan.control ≡ true → (k : ℕ) → k ≤ 31 → min 15 (sum (take (k + 1) (facts_after plan facts journal).noise)) ≡ min 15 (noises_within plan facts.noise journal k)
+counts : (plan : Settings) (facts : Facts) (journal : List Entry) → IsPlan plan → IsSound plan facts → IsLegal plan facts journal → is_up (facts_after plan facts journal) plan.lists.control ≡ true → (k : ℕ) → k ≤ 31 → min 15 (sum (take (k + 1) (facts_after plan facts journal).noise)) ≡ min 15 (noises_within plan facts.noise journal k)
 counts plan facts [] p h legal up k small = refl
 counts plan facts (entry ∷ earlier) p h legal up k small =
     let now : Facts = facts_after plan facts earlier in
     let sound : IsSound plan now = sound_after plan facts earlier (plan_known plan p) h legal.1 in
-    let up_then : slice_index_or (up_by_event plan now.up entry.event) plan.control false ≡ true = ap (λ (xs : List Bool). slice_index_or xs plan.control false) (sym (same_after entry.acts.list (up_by_event plan now.up entry.event))) ∙ up in
+    let up_then : slice_index_or (up_by_event plan now.up entry.event) plan.lists.control false ≡ true = ap (λ (xs : List Bool). slice_index_or xs plan.lists.control false) (sym (same_after entry.acts.list (up_by_event plan now.up entry.event))) ∙ up in
     ap (λ (xs : List ℕ). min 15 (sum (take (k + 1) xs))) (same_after entry.acts.list (noise_by_event plan now.noise entry.event))
     ∙ one_event plan now entry.event (noises_within plan facts.noise earlier) sound.window (λ was j few. counts plan facts earlier p h legal.1 was j few) k small up_then
 
@@ -114,12 +115,12 @@ whole [] (suc n) h = refl
 whole (x ∷ xs) zero h = absurd (omega arith)
 whole (x ∷ xs) (suc n) h = ap (λ ys. x ∷ ys) (whole xs n (omega arith))
 
-pub backoff_counts : (plan : Settings) (facts : Facts) (journal : List Entry) → IsPlan plan → IsSound plan facts → IsLegal plan facts journal → is_up (facts_after plan facts journal) plan.control ≡ true → backoff_of plan (facts_after plan facts journal).noise ≡ min plan.backoff_high (plan.backoff_low + recent_noises plan facts.noise journal)
+pub backoff_counts : (plan : Settings) (facts : Facts) (journal : List Entry) → IsPlan plan → IsSound plan facts → IsLegal plan facts journal → is_up (facts_after plan facts journal) plan.lists.control ≡ true → backoff_of plan.calls (facts_after plan facts journal).noise ≡ min plan.calls.backoff_high (plan.calls.backoff_low + recent_noises plan facts.noise journal)
 backoff_counts plan facts journal p h legal up =
     let noise : List ℕ = (facts_after plan facts journal).noise in
     let sound : IsSound plan (facts_after plan facts journal) = sound_after plan facts journal (plan_known plan p) h legal in
     let all : length noise ≡ 32 = sound.window up in
     let same : sum (take 32 noise) ≡ sum noise = ap (λ (xs : List ℕ). sum xs) (whole noise 32 (omega arith)) in
     let kept : min 15 (sum (take 32 noise)) ≡ min 15 (recent_noises plan facts.noise journal) = counts plan facts journal p h legal up 31 (omega arith) in
-    let high : plan.backoff_high ≤ 15 = p.backoff_high.1 in
+    let high : plan.calls.backoff_high ≤ 15 = p.calls.backoff_high.1 in
     omega arith

@@ -35,7 +35,7 @@ own_row (r ∷ rows) c x own h = either (r.number == c) h (λ k. own_row rows c 
 
 pub channel_known : (plan : Settings) (c : ℕ) → IsPlan plan → has_carrier plan c ≡ true → carrier_on plan (lpcn_of plan c) ≡ Some c
 channel_known plan c p there =
-    let row = found_row plan.carriers c there in
-    let own : find (λ r. r.lpcn == row.0.lpcn) plan.carriers ≡ Some row.0 = own_row plan.carriers c row.0 (own_channels plan.carriers p.carriers.apart.lpcns) row.1 in
-    let number : row.0.number ≡ c = equal_numbers row.0.number c (find_passes (λ r. r.number == c) plan.carriers row.0 row.1) in
+    let row = found_row plan.lists.carriers c there in
+    let own : find (λ r. r.lpcn == row.0.lpcn) plan.lists.carriers ≡ Some row.0 = own_row plan.lists.carriers c row.0 (own_channels plan.lists.carriers p.lists.carriers.apart.lpcns) row.1 in
+    let number : row.0.number ≡ c = equal_numbers row.0.number c (find_passes (λ r. r.number == c) plan.lists.carriers row.0 row.1) in
     ap (carrier_on plan) (lpcn_is plan c row.0 row.1) ∙ ap (λ (o : Option CarrierRow). option_map (λ (r : CarrierRow). r.number) o) own ∙ ap (λ (n : ℕ). Some n) number

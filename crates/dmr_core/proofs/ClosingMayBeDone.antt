@@ -77,14 +77,14 @@ pub cleared_is : (plan : Settings) (now : Facts) (call : Call) → call.slot.slo
 unfolding clear
 cleared_is plan now call small =
     let ended : Facts = facts_after_act now (Ended call.slot) in
-    let pdu : Pdu = Clear (lpcn_of plan plan.control) call.group call.target plan.tsi in
+    let pdu : Pdu = Clear (lpcn_of plan plan.lists.control) call.group call.target plan.system.tsi in
     record {
-      up = copies_up plan.clear_copies ended call.slot pdu;
-      registered = copies_registered plan.clear_copies ended call.slot pdu;
-      asks = copies_asks plan.clear_copies ended call.slot pdu;
-      lines = copies_lines plan.clear_copies ended call.slot pdu;
-      calls = copies_calls plan.clear_copies ended call.slot pdu;
-      others = λ slot also apart. copies_elsewhere plan.clear_copies ended call.slot slot pdu small also apart;
+      up = copies_up plan.calls.clear_copies ended call.slot pdu;
+      registered = copies_registered plan.calls.clear_copies ended call.slot pdu;
+      asks = copies_asks plan.calls.clear_copies ended call.slot pdu;
+      lines = copies_lines plan.calls.clear_copies ended call.slot pdu;
+      calls = copies_calls plan.calls.clear_copies ended call.slot pdu;
+      others = λ slot also apart. copies_elsewhere plan.calls.clear_copies ended call.slot slot pdu small also apart;
     }
 
 -- a radio that is found passes the test
@@ -132,14 +132,14 @@ pub record IsClosed (plan : Settings) (now later : Facts) (r : ℕ) : Type 0 whe
   pub up : later.up ≡ now.up
   pub registered : later.registered ≡ now.registered
   pub gone : engagements later.calls later.asks later.lines r ≡ 0
-  pub room : length (outbox later (control_slot plan)) ≤ length (outbox now (control_slot plan)) + 1
+  pub room : length (outbox later (control_slot plan.lists)) ≤ length (outbox now (control_slot plan.lists)) + 1
 
 pub record Closes (plan : Settings) (now : Facts) (r : ℕ) (acts : List Act) : Type 0 where
   pub may : AllMayDo plan now acts
   pub closed : IsClosed plan now (fold facts_after_act now acts) r
 
-control_apart : (plan : Settings) (now : Facts) (call : Call) → IsSound plan now → has_call_on now.calls call.slot ≡ true → is_slot (control_slot plan) call.slot ≡ false
-control_apart plan now call h on = same_slots (control_slot plan) call.slot ∙ (h.payload call.slot on).apart
+control_apart : (plan : Settings) (now : Facts) (call : Call) → IsSound plan now → has_call_on now.calls call.slot ≡ true → is_slot (control_slot plan.lists) call.slot ≡ false
+control_apart plan now call h on = same_slots (control_slot plan.lists) call.slot ∙ (h.payload call.slot on).apart
 
 call_closes : (plan : Settings) (now : Facts) (r : ℕ) (call : Call) → KnowsPlan plan → IsSound plan now → call_of now.calls r ≡ Some call → Closes plan now r (clear plan call)
 call_closes plan now r call p h found =
@@ -158,7 +158,7 @@ call_closes plan now r call p h found =
         up = c.up;
         registered = c.registered;
         gone = rw (c.calls, c.asks, c.lines) (omega (arith, h.once r));
-        room = rw (c.others (control_slot plan) (omega arith) (control_apart plan now call h on.0)) (omega arith);
+        room = rw (c.others (control_slot plan.lists) (omega arith) (control_apart plan now call h on.0)) (omega arith);
       };
     }
 
@@ -176,19 +176,19 @@ line_closes plan now r l h found =
     record { may = (tt, tt); closed = record { up = refl; registered = refl; gone = omega (arith, h.once r); room = omega arith } }
 
 -- if there is an ask or a line, the control carrier is up
-found_up : {X : Type 0} (plan : Settings) (now : Facts) (test : X → Bool) (xs : List X) (x : X) → (is_up now plan.control ≡ false → xs ≡ []) → find test xs ≡ Some x → is_up now plan.control ≡ true
-found_up {X = X} plan now test xs x h found = either (is_up now plan.control) refl
+found_up : {X : Type 0} (plan : Settings) (now : Facts) (test : X → Bool) (xs : List X) (x : X) → (is_up now plan.lists.control ≡ false → xs ≡ []) → find test xs ≡ Some x → is_up now plan.lists.control ≡ true
+found_up {X = X} plan now test xs x h found = either (is_up now plan.lists.control) refl
   where
     none : (ys : List X) → ys ≡ [] → find test ys ≡ Some x → Some x ≡ None
     none ys e k = sym k ∙ ap (λ (z : List X). find test z) e
 
-    either : (b : Bool) → is_up now plan.control ≡ b → b ≡ true
+    either : (b : Bool) → is_up now plan.lists.control ≡ b → b ≡ true
     either true e = refl
     either false e = let k : Some x ≡ None = none xs (h e) found in cc
 
-line_to_closes : (plan : Settings) (now : Facts) (r : ℕ) (l : Line) → KnowsPlan plan → IsSound plan now → length (outbox now (control_slot plan)) ≤ 56 → line_to now.lines r ≡ Some l → Closes plan now r (Unlined l.source ∷ ack plan l.source l.target 0x24)
+line_to_closes : (plan : Settings) (now : Facts) (r : ℕ) (l : Line) → KnowsPlan plan → IsSound plan now → length (outbox now (control_slot plan.lists)) ≤ 56 → line_to now.lines r ≡ Some l → Closes plan now r (Unlined l.source ∷ ack plan l.source l.target 0x24)
 line_to_closes plan now r l p h room found =
-    let up : is_up now plan.control ≡ true = found_up plan now (λ (x : Line). not x.group && (x.target == r)) now.lines l h.lines found in
+    let up : is_up now plan.lists.control ≡ true = found_up plan now (λ (x : Line). not x.group && (x.target == r)) now.lines l h.lines found in
     let test : Line → Bool = λ x. not x.group && (x.target == r) in
     let less : total (engagements_in_line r) (filter (λ x. not (x.source == l.source)) now.lines) + engagements_in_line r l ≤ total (engagements_in_line r) now.lines =
     total_found (engagements_in_line r) test (λ x. not (x.source == l.source)) now.lines l found (not_itself l.source) in
@@ -200,7 +200,7 @@ line_to_closes plan now r l p h room found =
         up = refl;
         registered = refl;
         gone = omega (arith, h.once r);
-        room = omega (arith, read_put now.outboxes (place (control_slot plan)) (box now.outboxes (control_slot plan) ++ pdu ∷ []), length-append (box now.outboxes (control_slot plan)) (pdu ∷ []));
+        room = omega (arith, read_put now.outboxes (place (control_slot plan.lists)) (box now.outboxes (control_slot plan.lists) ++ pdu ∷ []), length-append (box now.outboxes (control_slot plan.lists)) (pdu ∷ []));
       };
     }
 
@@ -217,9 +217,9 @@ asking_closes plan now r a h found =
     let one : 1 ≤ engagements_in_ask r a = ask_counts r a (find_passes (λ x. x.ask.source == r) now.asks a found) in
     record { may = (tt, tt); closed = record { up = refl; registered = refl; gone = omega (arith, h.once r); room = omega arith } }
 
-asking_to_closes : (plan : Settings) (now : Facts) (r : ℕ) (a : ActiveAsk) → KnowsPlan plan → IsSound plan now → length (outbox now (control_slot plan)) ≤ 56 → find (λ x. x.ask.target == r) now.asks ≡ Some a → Closes plan now r (AskOver a.ask.source ∷ ack plan a.ask.source a.ask.target 0x24)
+asking_to_closes : (plan : Settings) (now : Facts) (r : ℕ) (a : ActiveAsk) → KnowsPlan plan → IsSound plan now → length (outbox now (control_slot plan.lists)) ≤ 56 → find (λ x. x.ask.target == r) now.asks ≡ Some a → Closes plan now r (AskOver a.ask.source ∷ ack plan a.ask.source a.ask.target 0x24)
 asking_to_closes plan now r a p h room found =
-    let up : is_up now plan.control ≡ true = found_up plan now (λ (x : ActiveAsk). x.ask.target == r) now.asks a h.asks found in
+    let up : is_up now plan.lists.control ≡ true = found_up plan now (λ (x : ActiveAsk). x.ask.target == r) now.asks a h.asks found in
     let less : total (engagements_in_ask r) (others_than a.ask.source now.asks) + engagements_in_ask r a ≤ total (engagements_in_ask r) now.asks =
     total_found (engagements_in_ask r) (λ x. x.ask.target == r) (λ x. not (x.ask.source == a.ask.source)) now.asks a found (not_itself a.ask.source) in
     let one : 1 ≤ engagements_in_ask r a = ask_to_counts r a (find_passes (λ x. x.ask.target == r) now.asks a found) in
@@ -230,7 +230,7 @@ asking_to_closes plan now r a p h room found =
         up = refl;
         registered = refl;
         gone = omega (arith, h.once r);
-        room = omega (arith, read_put now.outboxes (place (control_slot plan)) (box now.outboxes (control_slot plan) ++ pdu ∷ []), length-append (box now.outboxes (control_slot plan)) (pdu ∷ []));
+        room = omega (arith, read_put now.outboxes (place (control_slot plan.lists)) (box now.outboxes (control_slot plan.lists) ++ pdu ∷ []), length-append (box now.outboxes (control_slot plan.lists)) (pdu ∷ []));
       };
     }
 
@@ -239,7 +239,7 @@ ask_closes plan now r ask h found =
     let a = found_ask (find (λ x. x.ask.source == r) now.asks) ask found in
     subst (λ (k : Ask). Closes plan now r (AskOver k.source ∷ [])) a.2 (asking_closes plan now r a.0 h a.1)
 
-ask_to_closes : (plan : Settings) (now : Facts) (r : ℕ) (ask : Ask) → KnowsPlan plan → IsSound plan now → length (outbox now (control_slot plan)) ≤ 56 → ask_to now.asks r ≡ Some ask → Closes plan now r (AskOver ask.source ∷ ack plan ask.source ask.target 0x24)
+ask_to_closes : (plan : Settings) (now : Facts) (r : ℕ) (ask : Ask) → KnowsPlan plan → IsSound plan now → length (outbox now (control_slot plan.lists)) ≤ 56 → ask_to now.asks r ≡ Some ask → Closes plan now r (AskOver ask.source ∷ ack plan ask.source ask.target 0x24)
 ask_to_closes plan now r ask p h room found =
     let a = found_ask (find (λ x. x.ask.target == r) now.asks) ask found in
     subst (λ (k : Ask). Closes plan now r (AskOver k.source ∷ ack plan k.source k.target 0x24)) a.2 (asking_to_closes plan now r a.0 p h room a.1)
@@ -259,7 +259,7 @@ none_closes plan now r a x y b c =
     either_none now.lines r (none_found (λ l. l.source == r) now.lines b) (none_found (λ l. not l.group && (l.target == r)) now.lines c) in
     record { may = tt; closed = record { up = refl; registered = refl; gone = not_engaged now r (rw (calls, asks, lines) refl); room = omega arith } }
 
-pub close_closes : (plan : Settings) (now : Facts) (r : ℕ) → KnowsPlan plan → IsSound plan now → length (outbox now (control_slot plan)) ≤ 56 → Closes plan now r (close plan now r)
+pub close_closes : (plan : Settings) (now : Facts) (r : ℕ) → KnowsPlan plan → IsSound plan now → length (outbox now (control_slot plan.lists)) ≤ 56 → Closes plan now r (close plan now r)
 unfolding close
 close_closes plan now r p h room =
     let calls : (call : Call) → call_of now.calls r ≡ Some call → Closes plan now r (clear plan call) = λ call k. call_closes plan now r call p h k in

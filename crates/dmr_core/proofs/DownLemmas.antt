@@ -114,34 +114,35 @@ poll_or true ns h = rw (h refl) refl
 poll_or false ns h = refl
 
 -- if a carrier is down and is the control carrier, the control carrier is down
-down_too : (plan : Settings) (now : Facts) (c : ℕ) → is_up now c ≡ false → (c == plan.control) ≡ true → is_up now plan.control ≡ false
-down_too plan now c h e = let same : c ≡ plan.control = equal_numbers c plan.control e in rw same at h
+down_too : (plan : Settings) (now : Facts) (c : ℕ) → is_up now c ≡ false → (c == plan.lists.control) ≡ true
+    → is_up now plan.lists.control ≡ false
+down_too plan now c h e = let same : c ≡ plan.lists.control = equal_numbers c plan.lists.control e in rw same at h
 
-slot_down : (plan : Settings) (now : Facts) (slot : Slot) → is_up now slot.carrier ≡ false → is_control plan slot ≡ true → is_up now plan.control ≡ false
-slot_down plan now slot h e = down_too plan now slot.carrier h (and_true (slot.carrier == plan.control) (slot.slot == 0) e).0
+slot_down : (plan : Settings) (now : Facts) (slot : Slot) → is_up now slot.carrier ≡ false → is_control plan.lists slot ≡ true → is_up now plan.lists.control ≡ false
+slot_down plan now slot h e = down_too plan now slot.carrier h (and_true (slot.carrier == plan.lists.control) (slot.slot == 0) e).0
 
 pub same_noted : (plan : Settings) (now : Facts) (event : Event) → IsPlan plan → IsSound plan now → IsOfNoCarrier plan now event → facts_after_event plan now event ≡ now
 same_noted plan now (Up c) p h none =
-    let other : (c == plan.control) ≡ false = not_control plan c (plan_known plan p) none in
+    let other : (c == plan.lists.control) ≡ false = not_control plan c (plan_known plan p) none in
     let down : is_up now c ≡ false = unknown_down plan now c h none in
     same_facts (facts_after_event plan now (Up c)) now (rw none refl) refl (rw other refl) (rw other refl)
     (same_calls now.calls c (λ slot k. not_there plan now c slot h down k))
     (both_boxes now.outboxes c (λ n small. h.down (record { carrier = c; slot = n }) small down)) (rw other refl) refl (rw other refl) (rw other refl)
 same_noted plan now (Lost c) p h none =
     same_facts (facts_after_event plan now (Lost c)) now (same_up now.up c none) refl
-    (none_or (c == plan.control) now.asks (λ e. h.asks (down_too plan now c none e)))
-    (none_or (c == plan.control) now.lines (λ e. h.lines (down_too plan now c none e)))
+    (none_or (c == plan.lists.control) now.asks (λ e. h.asks (down_too plan now c none e)))
+    (none_or (c == plan.lists.control) now.lines (λ e. h.lines (down_too plan now c none e)))
     (same_calls now.calls c (λ slot k. not_there plan now c slot h none k))
     (both_boxes now.outboxes c (λ n small. h.down (record { carrier = c; slot = n }) small none))
-    (none_or (c == plan.control) now.noise (λ e. h.noiseless (down_too plan now c none e))) refl
-    (zero_or (c == plan.control) now.fills (λ e. h.unfilled (down_too plan now c none e)))
-    (unnamed_or (c == plan.control) now.late (λ e. h.unnamed (down_too plan now c none e)))
+    (none_or (c == plan.lists.control) now.noise (λ e. h.noiseless (down_too plan now c none e))) refl
+    (zero_or (c == plan.lists.control) now.fills (λ e. h.unfilled (down_too plan now c none e)))
+    (unnamed_or (c == plan.lists.control) now.late (λ e. h.unnamed (down_too plan now c none e)))
 same_noted plan now (Noise slot) p h none =
-    same_facts (facts_after_event plan now (Noise slot)) now refl refl refl refl refl refl (noise_or (is_control plan slot) now.noise (λ e. h.noiseless (slot_down plan now slot none e))) refl refl refl
+    same_facts (facts_after_event plan now (Noise slot)) now refl refl refl refl refl refl (noise_or (is_control plan.lists slot) now.noise (λ e. h.noiseless (slot_down plan now slot none e))) refl refl refl
 same_noted plan now (Active slot) p h none =
     same_facts (facts_after_event plan now (Active slot)) now refl refl refl refl (same_marked now.calls slot (none_there plan now slot h none)) refl refl refl refl refl
 same_noted plan now (Poll c) p h none =
-    same_facts (facts_after_event plan now (Poll c)) now refl refl refl refl refl refl (poll_or (c == plan.control) now.noise (λ e. h.noiseless (down_too plan now c none e))) refl refl refl
+    same_facts (facts_after_event plan now (Poll c)) now refl refl refl refl refl refl (poll_or (c == plan.lists.control) now.noise (λ e. h.noiseless (down_too plan now c none e))) refl refl refl
 same_noted plan now (Heard slot pdu) p h none = refl
 same_noted plan now Tick p h none = elim none [ ]
 same_noted plan now (Say command) p h none = elim none [ ]

@@ -286,22 +286,22 @@ abbrev reset : Settings → Facts → ℕ → List Bool → List ℕ → Facts
 reset plan now c up noise = record {
   up = up;
   registered = now.registered;
-  asks = if c == plan.control then [] else now.asks;
-  lines = if c == plan.control then [] else now.lines;
+  asks = if c == plan.lists.control then [] else now.asks;
+  lines = if c == plan.lists.control then [] else now.lines;
   calls = filter (λ s. not (s.call.slot.carrier == c)) now.calls;
   outboxes = outboxes_without_carrier now.outboxes c;
   noise = noise;
   moving = now.moving;
-  fills = if c == plan.control then 0 else now.fills;
-  late = if c == plan.control then None else now.late;
+  fills = if c == plan.lists.control then 0 else now.fills;
+  late = if c == plan.lists.control then None else now.late;
 }
 
-sound-reset : (plan : Settings) (now : Facts) (c : ℕ) (up : List Bool) (noise : List ℕ) → length up ≡ 16 → ((x : ℕ) → slice_index_or up x false ≡ true → has_carrier plan x ≡ true) → ((x : ℕ) → (x == c) ≡ false → slice_index_or up x false ≡ is_up now x) → (slice_index_or up plan.control false ≡ false → noise ≡ []) → (slice_index_or up plan.control false ≡ true → length noise ≡ 32) → IsSound plan now → IsSound plan (reset plan now c up noise)
+sound-reset : (plan : Settings) (now : Facts) (c : ℕ) (up : List Bool) (noise : List ℕ) → length up ≡ 16 → ((x : ℕ) → slice_index_or up x false ≡ true → has_carrier plan x ≡ true) → ((x : ℕ) → (x == c) ≡ false → slice_index_or up x false ≡ is_up now x) → (slice_index_or up plan.lists.control false ≡ false → noise ≡ []) → (slice_index_or up plan.lists.control false ≡ true → length noise ≡ 32) → IsSound plan now → IsSound plan (reset plan now c up noise)
 sound-reset plan now c up noise long known others noiseless window h =
     let gone : ActiveCall → Bool = λ s. not (s.call.slot.carrier == c) in
     let before : (slot : Slot) → has_call_on (filter gone now.calls) slot ≡ true → has_call_on now.calls slot ≡ true = λ slot k. any_before (λ s. is_slot s.call.slot slot) gone now.calls k in
-    let fewer : (r : ℕ) → engagements (filter gone now.calls) (if c == plan.control then [] else now.asks) (if c == plan.control then [] else now.lines) r ≤ engagements now.calls now.asks now.lines r =
-    λ r. omega (arith, total-filter (engagements_in_call r) gone now.calls, lines_or (engagements_in_ask r) (c == plan.control) now.asks, lines_or (engagements_in_line r) (c == plan.control) now.lines) in
+    let fewer : (r : ℕ) → engagements (filter gone now.calls) (if c == plan.lists.control then [] else now.asks) (if c == plan.lists.control then [] else now.lines) r ≤ engagements now.calls now.asks now.lines r =
+    λ r. omega (arith, total-filter (engagements_in_call r) gone now.calls, lines_or (engagements_in_ask r) (c == plan.lists.control) now.asks, lines_or (engagements_in_line r) (c == plan.lists.control) now.lines) in
     record {
       carriers = long;
       slots = length-set (slice_set now.outboxes (2 * c) []) (2 * c + 1) [] ∙ length-set now.outboxes (2 * c) [] ∙ h.slots;
@@ -310,28 +310,28 @@ sound-reset plan now c up noise long known others noiseless window h =
       payload = λ slot k. let was : IsPayload plan now.up slot = h.payload slot (before slot k) in
           record { known = was.known; is_up = others slot.carrier (stays now.calls c slot k) ∙ was.is_up; small = was.small; apart = was.apart };
       quiet = λ slot k. emptied_or (λ b. b ≡ []) now.outboxes c slot refl (h.quiet slot (before slot k));
-      asks = λ k. none_or (c == plan.control) now.asks (λ e. h.asks (sym (others plan.control (flipped c plan.control e)) ∙ k));
-      lines = λ k. none_or (c == plan.control) now.lines (λ e. h.lines (sym (others plan.control (flipped c plan.control e)) ∙ k));
+      asks = λ k. none_or (c == plan.lists.control) now.asks (λ e. h.asks (sym (others plan.lists.control (flipped c plan.lists.control e)) ∙ k));
+      lines = λ k. none_or (c == plan.lists.control) now.lines (λ e. h.lines (sym (others plan.lists.control (flipped c plan.lists.control e)) ∙ k));
       distinct = h.distinct;
       parties = λ r k. h.parties r (omega (arith, k, fewer r));
       called = λ g k. h.called g (any_before (λ s. s.call.group && (s.call.target == g)) gone now.calls k);
-      lined = λ g k. h.lined g (any_or (λ l. l.group && (l.target == g)) (c == plan.control) now.lines k);
+      lined = λ g k. h.lined g (any_or (λ l. l.group && (l.target == g)) (c == plan.lists.control) now.lines k);
       once = λ r. omega (arith, h.once r, fewer r);
       down = λ slot small k. down_there slot small k (slot.carrier == c) refl;
       elsewhere = λ slot small k. emptied_or (λ b. list_any is_grant b ≡ false) now.outboxes c slot refl (h.elsewhere slot small k);
-      own = λ slot call k. emptied_or (λ b. list_all (is_own plan call) b ≡ true) now.outboxes c (control_slot plan) refl (h.own slot call (call_after (λ x. not (x.carrier == c)) now.calls slot call k));
+      own = λ slot call k. emptied_or (λ b. list_all (is_own plan call) b ≡ true) now.outboxes c (control_slot plan.lists) refl (h.own slot call (call_after (λ x. not (x.carrier == c)) now.calls slot call k));
       few_calls = omega (arith, h.few_calls, length-filter_le gone now.calls);
-      few_asks = omega (arith, h.few_asks, length_or (c == plan.control) now.asks);
-      few_lines = omega (arith, h.few_lines, length_or (c == plan.control) now.lines);
+      few_asks = omega (arith, h.few_asks, length_or (c == plan.lists.control) now.asks);
+      few_lines = omega (arith, h.few_lines, length_or (c == plan.lists.control) now.lines);
       few_radios = h.few_radios;
       few_waiting = λ slot small. emptied_or (λ b. length b ≤ 64) now.outboxes c slot (omega arith) (h.few_waiting slot small);
       ages = All-filter gone IsCounted now.calls h.ages;
-      waits = waits_or (c == plan.control) now.asks h.waits;
+      waits = waits_or (c == plan.lists.control) now.asks h.waits;
       noiseless = noiseless;
       window = window;
-      counted = few_or (c == plan.control) now.fills h.counted;
-      unfilled = λ k. zero_or (c == plan.control) now.fills (λ e. h.unfilled (sym (others plan.control (flipped c plan.control e)) ∙ k));
-      unnamed = λ k. unnamed_or (c == plan.control) now.late (λ e. h.unnamed (sym (others plan.control (flipped c plan.control e)) ∙ k));
+      counted = few_or (c == plan.lists.control) now.fills h.counted;
+      unfilled = λ k. zero_or (c == plan.lists.control) now.fills (λ e. h.unfilled (sym (others plan.lists.control (flipped c plan.lists.control e)) ∙ k));
+      unnamed = λ k. unnamed_or (c == plan.lists.control) now.late (λ e. h.unnamed (sym (others plan.lists.control (flipped c plan.lists.control e)) ∙ k));
     }
   where
     down_there : (slot : Slot) → slot.slot < 2 → slice_index_or up slot.carrier false ≡ false → (b : Bool) → (slot.carrier == c) ≡ b → box (outboxes_without_carrier now.outboxes c) slot ≡ []
@@ -367,26 +367,26 @@ unfolding noise_at_up
 length-noise_at_up = refl
 
 -- the noise numbers begin again with the control carrier
-begun_none : (plan : Settings) (now : Facts) (c : ℕ) (b : Bool) → (c == plan.control) ≡ b → plan.control < 16 → IsSound plan now → slice_index_or (slice_set now.up c true) plan.control false ≡ false → (if b then noise_at_up else now.noise) ≡ []
+begun_none : (plan : Settings) (now : Facts) (c : ℕ) (b : Bool) → (c == plan.lists.control) ≡ b → plan.lists.control < 16 → IsSound plan now → slice_index_or (slice_set now.up c true) plan.lists.control false ≡ false → (if b then noise_at_up else now.noise) ≡ []
 begun_none plan now c true e small h k =
-    let same : c ≡ plan.control = equal_numbers c plan.control e in
-    let there : slice_index_or (slice_set now.up plan.control true) plan.control false ≡ true = get_or-set_same now.up plan.control true false (omega (arith, h.carriers)) in
-    let down : slice_index_or (slice_set now.up plan.control true) plan.control false ≡ false = rw same at k in
+    let same : c ≡ plan.lists.control = equal_numbers c plan.lists.control e in
+    let there : slice_index_or (slice_set now.up plan.lists.control true) plan.lists.control false ≡ true = get_or-set_same now.up plan.lists.control true false (omega (arith, h.carriers)) in
+    let down : slice_index_or (slice_set now.up plan.lists.control true) plan.lists.control false ≡ false = rw same at k in
     cc
-begun_none plan now c false e small h k = h.noiseless (sym (get_or-set_other now.up c plan.control true false (other_number plan.control c (flipped c plan.control e))) ∙ k)
+begun_none plan now c false e small h k = h.noiseless (sym (get_or-set_other now.up c plan.lists.control true false (other_number plan.lists.control c (flipped c plan.lists.control e))) ∙ k)
 
-begun_all : (plan : Settings) (now : Facts) (c : ℕ) (b : Bool) → (c == plan.control) ≡ b → IsSound plan now → slice_index_or (slice_set now.up c true) plan.control false ≡ true → length (if b then noise_at_up else now.noise) ≡ 32
+begun_all : (plan : Settings) (now : Facts) (c : ℕ) (b : Bool) → (c == plan.lists.control) ≡ b → IsSound plan now → slice_index_or (slice_set now.up c true) plan.lists.control false ≡ true → length (if b then noise_at_up else now.noise) ≡ 32
 begun_all plan now c true e h k = length-noise_at_up
-begun_all plan now c false e h k = h.window (sym (get_or-set_other now.up c plan.control true false (other_number plan.control c (flipped c plan.control e))) ∙ k)
+begun_all plan now c false e h k = h.window (sym (get_or-set_other now.up c plan.lists.control true false (other_number plan.lists.control c (flipped c plan.lists.control e))) ∙ k)
 
 -- a carrier that the plan does not have is not the control carrier
-pub not_control : (plan : Settings) (c : ℕ) → KnowsPlan plan → has_carrier plan c ≡ false → (c == plan.control) ≡ false
-not_control plan c p h = either (c == plan.control) refl
+pub not_control : (plan : Settings) (c : ℕ) → KnowsPlan plan → has_carrier plan c ≡ false → (c == plan.lists.control) ≡ false
+not_control plan c p h = either (c == plan.lists.control) refl
   where
-    either : (b : Bool) → (c == plan.control) ≡ b → b ≡ false
+    either : (b : Bool) → (c == plan.lists.control) ≡ b → b ≡ false
     either true e =
-        let same : c ≡ plan.control = equal_numbers c plan.control e in
-        let gone : has_carrier plan plan.control ≡ false = rw same at h in
+        let same : c ≡ plan.lists.control = equal_numbers c plan.lists.control e in
+        let gone : has_carrier plan plan.lists.control ≡ false = rw same at h in
         true_false _ p.control gone
     either false e = refl
 
@@ -394,42 +394,42 @@ same_noise : (b : Bool) (noise : List ℕ) → b ≡ false → (if b then noise_
 same_noise true noise h = cc
 same_noise false noise h = refl
 
-came_up : (plan : Settings) (now : Facts) (c : ℕ) (b : Bool) → has_carrier plan c ≡ b → KnowsPlan plan → IsSound plan now → IsSound plan (reset plan now c (if b then slice_set now.up c true else now.up) (if c == plan.control then noise_at_up else now.noise))
+came_up : (plan : Settings) (now : Facts) (c : ℕ) (b : Bool) → has_carrier plan c ≡ b → KnowsPlan plan → IsSound plan now → IsSound plan (reset plan now c (if b then slice_set now.up c true else now.up) (if c == plan.lists.control then noise_at_up else now.noise))
 came_up plan now c true e p h =
-    sound-reset plan now c (slice_set now.up c true) (if c == plan.control then noise_at_up else now.noise) (length-set now.up c true ∙ h.carriers)
+    sound-reset plan now c (slice_set now.up c true) (if c == plan.lists.control then noise_at_up else now.noise) (length-set now.up c true ∙ h.carriers)
     (λ x k. known_set plan now.up c x e (h.known x) k)
     (λ x k. get_or-set_other now.up c x true false (other_number x c k))
-    (λ k. begun_none plan now c (c == plan.control) refl (p.numbers plan.control p.control) h k)
-    (λ k. begun_all plan now c (c == plan.control) refl h k)
+    (λ k. begun_none plan now c (c == plan.lists.control) refl (p.numbers plan.lists.control p.control) h k)
+    (λ k. begun_all plan now c (c == plan.lists.control) refl h k)
     h
 came_up plan now c false e p h =
-    let same : (if c == plan.control then noise_at_up else now.noise) ≡ now.noise = same_noise (c == plan.control) now.noise (not_control plan c p e) in
-    sound-reset plan now c now.up (if c == plan.control then noise_at_up else now.noise) h.carriers h.known (λ x k. refl) (λ k. same ∙ h.noiseless k) (λ k. ap (λ (xs : List ℕ). length xs) same ∙ h.window k) h
+    let same : (if c == plan.lists.control then noise_at_up else now.noise) ≡ now.noise = same_noise (c == plan.lists.control) now.noise (not_control plan c p e) in
+    sound-reset plan now c now.up (if c == plan.lists.control then noise_at_up else now.noise) h.carriers h.known (λ x k. refl) (λ k. same ∙ h.noiseless k) (λ k. ap (λ (xs : List ℕ). length xs) same ∙ h.window k) h
 
-ended_none : (plan : Settings) (now : Facts) (c : ℕ) (b : Bool) → (c == plan.control) ≡ b → IsSound plan now → slice_index_or (slice_set now.up c false) plan.control false ≡ false → (if b then [] else now.noise) ≡ []
+ended_none : (plan : Settings) (now : Facts) (c : ℕ) (b : Bool) → (c == plan.lists.control) ≡ b → IsSound plan now → slice_index_or (slice_set now.up c false) plan.lists.control false ≡ false → (if b then [] else now.noise) ≡ []
 ended_none plan now c true e h k = refl
-ended_none plan now c false e h k = h.noiseless (sym (get_or-set_other now.up c plan.control false false (other_number plan.control c (flipped c plan.control e))) ∙ k)
+ended_none plan now c false e h k = h.noiseless (sym (get_or-set_other now.up c plan.lists.control false false (other_number plan.lists.control c (flipped c plan.lists.control e))) ∙ k)
 
-ended_all : (plan : Settings) (now : Facts) (c : ℕ) (b : Bool) → (c == plan.control) ≡ b → IsSound plan now → slice_index_or (slice_set now.up c false) plan.control false ≡ true → length (if b then [] else now.noise) ≡ 32
+ended_all : (plan : Settings) (now : Facts) (c : ℕ) (b : Bool) → (c == plan.lists.control) ≡ b → IsSound plan now → slice_index_or (slice_set now.up c false) plan.lists.control false ≡ true → length (if b then [] else now.noise) ≡ 32
 ended_all plan now c true e h k =
-    let same : c ≡ plan.control = equal_numbers c plan.control e in
-    let up : slice_index_or (slice_set now.up plan.control false) plan.control false ≡ true = rw same at k in
-    let down : slice_index_or (slice_set now.up plan.control false) plan.control false ≡ false = cleared now.up plan.control in
+    let same : c ≡ plan.lists.control = equal_numbers c plan.lists.control e in
+    let up : slice_index_or (slice_set now.up plan.lists.control false) plan.lists.control false ≡ true = rw same at k in
+    let down : slice_index_or (slice_set now.up plan.lists.control false) plan.lists.control false ≡ false = cleared now.up plan.lists.control in
     cc
-ended_all plan now c false e h k = h.window (sym (get_or-set_other now.up c plan.control false false (other_number plan.control c (flipped c plan.control e))) ∙ k)
+ended_all plan now c false e h k = h.window (sym (get_or-set_other now.up c plan.lists.control false false (other_number plan.lists.control c (flipped c plan.lists.control e))) ∙ k)
 
 pub sound-noted : (plan : Settings) (now : Facts) (event : Event) → KnowsPlan plan → IsSound plan now → IsSound plan (facts_after_event plan now event)
 sound-noted plan now (Up c) p h = came_up plan now c (has_carrier plan c) refl p h
 sound-noted plan now (Lost c) p h =
-    sound-reset plan now c (slice_set now.up c false) (if c == plan.control then [] else now.noise) (length-set now.up c false ∙ h.carriers)
+    sound-reset plan now c (slice_set now.up c false) (if c == plan.lists.control then [] else now.noise) (length-set now.up c false ∙ h.carriers)
     (λ x k. known_cleared plan now.up c x (h.known x) k)
     (λ x k. get_or-set_other now.up c x false false (other_number x c k))
-    (λ k. ended_none plan now c (c == plan.control) refl h k)
-    (λ k. ended_all plan now c (c == plan.control) refl h k)
+    (λ k. ended_none plan now c (c == plan.lists.control) refl h k)
+    (λ k. ended_all plan now c (c == plan.lists.control) refl h k)
     h
 sound-noted plan now (Active slot) p h = sound-mapped plan now (with_activity slot) (marked_call slot) (marked_counted slot) h
 sound-noted plan now Tick p h = sound-waited plan (record now { calls = map one_tick_older now.calls }) (sound-mapped plan now one_tick_older (λ s. refl) (λ s h. (omega arith, omega arith)) h)
-sound-noted plan now (Noise slot) p h = sound-noise plan now (if is_control plan slot then with_noise now.noise else now.noise) h (with_noise_none (is_control plan slot) now.noise) (with_noise_all (is_control plan slot) now.noise)
-sound-noted plan now (Poll c) p h = sound-noise plan now (if c == plan.control then with_poll now.noise else now.noise) h (with_poll_none (c == plan.control) now.noise) (with_poll_all (c == plan.control) now.noise)
+sound-noted plan now (Noise slot) p h = sound-noise plan now (if is_control plan.lists slot then with_noise now.noise else now.noise) h (with_noise_none (is_control plan.lists slot) now.noise) (with_noise_all (is_control plan.lists slot) now.noise)
+sound-noted plan now (Poll c) p h = sound-noise plan now (if c == plan.lists.control then with_poll now.noise else now.noise) h (with_poll_none (c == plan.lists.control) now.noise) (with_poll_all (c == plan.lists.control) now.noise)
 sound-noted plan now (Say command) p h = sound-moving plan now (moving_by_event now.moving (Say command)) h
 sound-noted plan now event p h = h

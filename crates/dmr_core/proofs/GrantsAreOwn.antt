@@ -145,26 +145,26 @@ pub named_own : (plan : Settings) (now : Facts) (slot there : Slot) (call : Call
 named_own plan now slot there call pdu true p h k e may = rw may.1.is (own_of plan now slot call may.1.call may.1.late p h k may.1.stands)
 named_own plan now slot there call pdu false p h k e may = not_grant_own plan call pdu e
 
-pub control_small : (plan : Settings) → (control_slot plan).slot < 2
+pub control_small : (plan : Settings) → (control_slot plan.lists).slot < 2
 control_small plan = omega arith
 
-pub own-done : (plan : Settings) (now : Facts) (act : Act) → KnowsPlan plan → IsSound plan now → MayDo plan now act → (slot : Slot) (call : Call) → call_on (facts_after_act now act).calls slot ≡ Some call → list_all (is_own plan call) (outbox (facts_after_act now act) (control_slot plan)) ≡ true
+pub own-done : (plan : Settings) (now : Facts) (act : Act) → KnowsPlan plan → IsSound plan now → MayDo plan now act → (slot : Slot) (call : Call) → call_on (facts_after_act now act).calls slot ≡ Some call → list_all (is_own plan call) (outbox (facts_after_act now act) (control_slot plan.lists)) ≡ true
 own-done plan now (Queue there pdu) p h may slot call k =
-    let before : list_all (is_own plan call) (outbox now (control_slot plan)) ≡ true = h.own slot call k in
-    after_put (λ s b. s ≡ control_slot plan → list_all (is_own plan call) b ≡ true) now.outboxes there _ (control_slot plan) may.small (control_small plan)
+    let before : list_all (is_own plan call) (outbox now (control_slot plan.lists)) ≡ true = h.own slot call k in
+    after_put (λ s b. s ≡ control_slot plan.lists → list_all (is_own plan call) b ≡ true) now.outboxes there _ (control_slot plan.lists) may.small (control_small plan)
     (within_boxes plan now there p h may.up may.small)
     (λ e. all_more (is_own plan call) (outbox now there) pdu (subst (λ (x : Slot). list_all (is_own plan call) (outbox now x) ≡ true) (sym e) before) (named_own plan now slot there call pdu (is_grant pdu) p h k refl may.names))
     (λ d e. before) refl
 own-done plan now (Send there pdu) p h may slot call k =
-    let before : list_all (is_own plan call) (outbox now (control_slot plan)) ≡ true = h.own slot call k in
-    after_put (λ s b. s ≡ control_slot plan → list_all (is_own plan call) b ≡ true) now.outboxes there _ (control_slot plan) may.1 (control_small plan)
+    let before : list_all (is_own plan call) (outbox now (control_slot plan.lists)) ≡ true = h.own slot call k in
+    after_put (λ s b. s ≡ control_slot plan.lists → list_all (is_own plan call) b ≡ true) now.outboxes there _ (control_slot plan.lists) may.1 (control_small plan)
     (within_boxes plan now there p h may.0 may.1)
     (λ e. all-drop (is_own plan call) (outbox now there) (subst (λ (x : Slot). list_all (is_own plan call) (outbox now x) ≡ true) (sym e) before))
     (λ d e. before) refl
 own-done plan now (Began new) p h may slot call k =
     elim (call_new now.calls (record { call = new; age = 0; quiet = 0 }) slot call k) [
       | inl e ↦ h.own slot call e
-      | inr e ↦ subst (λ (x : Call). list_all (is_own plan x) (outbox now (control_slot plan)) ≡ true) e (all_unnamed plan new (outbox now (control_slot plan)) (free_is plan now new.slot may.free).ungranted)
+      | inr e ↦ subst (λ (x : Call). list_all (is_own plan x) (outbox now (control_slot plan.lists)) ≡ true) e (all_unnamed plan new (outbox now (control_slot plan.lists)) (free_is plan now new.slot may.free).ungranted)
     ]
 own-done plan now (Ended other) p h may slot call k = h.own slot call (call_after (λ x. not (is_slot x other)) now.calls slot call k)
 own-done plan now act p h may slot call k = h.own slot call k

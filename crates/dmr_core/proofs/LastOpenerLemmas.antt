@@ -82,18 +82,19 @@ late_or : (b : Bool) (late : Option NamedSlot) → (if b then None else late) �
 late_or true late = refl
 late_or false late = refl
 
-late_noted : (plan : Settings) (late : Option NamedSlot) (event : Event) → late_by_event plan late event ≡ unwrap_or (closed_with plan.control event) late
-late_noted plan late (Up c) = late_or (c == plan.control) late
-late_noted plan late (Lost c) = late_or (c == plan.control) late
+late_noted : (plan : Settings) (late : Option NamedSlot) (event : Event) → late_by_event plan late event ≡ unwrap_or (closed_with plan.lists.control event) late
+late_noted plan late (Up c) = late_or (c == plan.lists.control) late
+late_noted plan late (Lost c) = late_or (c == plan.lists.control) late
 late_noted plan late _ = refl
 
 late_left : (now : Facts) (act : Act) → late_by_act now.late act ≡ unwrap_or (of_late act) now.late
 late_left now (Fill slot (TvGrant channel number bit target source)) = refl
 late_left now _ = refl
 
-pub late_by_last : (plan : Settings) (facts : Facts) (journal : List Entry) → (facts_after plan facts journal).late ≡ value_after (closed_with plan.control) of_late facts.late journal
+pub late_by_last : (plan : Settings) (facts : Facts) (journal : List Entry) → (facts_after plan facts journal).late ≡ value_after (closed_with plan.lists.control) of_late facts.late journal
 late_by_last plan facts journal =
-    decided plan facts (λ (f : Facts). f.late) (closed_with plan.control) of_late (λ now event. late_noted plan now.late event) journal
+    decided plan facts (λ (f : Facts). f.late) (closed_with plan.lists.control) of_late
+    (λ now event. late_noted plan now.late event) journal
     (everywhere plan facts (Leaves (λ (f : Facts). f.late) of_late) late_left journal)
 
 -- the element that is found, after some were removed
@@ -173,15 +174,15 @@ asks_closed : (asks : List ActiveAsk) (r : ℕ) (b : Bool) → ask_of (if b then
 asks_closed asks r true = refl
 asks_closed asks r false = refl
 
-ask_noted : (plan : Settings) (asks : List ActiveAsk) (event : Event) (r : ℕ) → ask_of (asks_by_event plan asks event) r ≡ unwrap_or (closed_with plan.control event) (ask_of asks r)
-ask_noted plan asks (Up c) r = asks_closed asks r (c == plan.control)
-ask_noted plan asks (Lost c) r = asks_closed asks r (c == plan.control)
+ask_noted : (plan : Settings) (asks : List ActiveAsk) (event : Event) (r : ℕ) → ask_of (asks_by_event plan asks event) r ≡ unwrap_or (closed_with plan.lists.control event) (ask_of asks r)
+ask_noted plan asks (Up c) r = asks_closed asks r (c == plan.lists.control)
+ask_noted plan asks (Lost c) r = asks_closed asks r (c == plan.lists.control)
 ask_noted plan asks Tick r = found_map (λ (a : ActiveAsk). a.ask.source == r) (λ (a : ActiveAsk). a.ask) ask_after_tick (λ a. refl) (λ a. refl) asks
 ask_noted plan asks _ r = refl
 
-pub ask_by_last : (plan : Settings) (facts : Facts) (journal : List Entry) (r : ℕ) → ask_of (facts_after plan facts journal).asks r ≡ value_after (closed_with plan.control) (of_ask r) (ask_of facts.asks r) journal
+pub ask_by_last : (plan : Settings) (facts : Facts) (journal : List Entry) (r : ℕ) → ask_of (facts_after plan facts journal).asks r ≡ value_after (closed_with plan.lists.control) (of_ask r) (ask_of facts.asks r) journal
 ask_by_last plan facts journal r =
-    decided plan facts (λ (f : Facts). ask_of f.asks r) (closed_with plan.control) (of_ask r) (λ now event. ask_noted plan now.asks event r) journal
+    decided plan facts (λ (f : Facts). ask_of f.asks r) (closed_with plan.lists.control) (of_ask r) (λ now event. ask_noted plan now.asks event r) journal
     (everywhere plan facts (Leaves (λ (f : Facts). ask_of f.asks r) (of_ask r)) (ask_left r) journal)
 
 -- lines
@@ -219,14 +220,14 @@ lines_closed : (lines : List Line) (r : ℕ) (b : Bool) → line_of (if b then [
 lines_closed lines r true = refl
 lines_closed lines r false = refl
 
-line_noted : (plan : Settings) (lines : List Line) (event : Event) (r : ℕ) → line_of (lines_by_event plan lines event) r ≡ unwrap_or (closed_with plan.control event) (line_of lines r)
-line_noted plan lines (Up c) r = lines_closed lines r (c == plan.control)
-line_noted plan lines (Lost c) r = lines_closed lines r (c == plan.control)
+line_noted : (plan : Settings) (lines : List Line) (event : Event) (r : ℕ) → line_of (lines_by_event plan lines event) r ≡ unwrap_or (closed_with plan.lists.control event) (line_of lines r)
+line_noted plan lines (Up c) r = lines_closed lines r (c == plan.lists.control)
+line_noted plan lines (Lost c) r = lines_closed lines r (c == plan.lists.control)
 line_noted plan lines _ r = refl
 
-pub line_by_last : (plan : Settings) (facts : Facts) (journal : List Entry) (r : ℕ) → KnowsPlan plan → IsSound plan facts → IsLegal plan facts journal → line_of (facts_after plan facts journal).lines r ≡ value_after (closed_with plan.control) (of_line r) (line_of facts.lines r) journal
+pub line_by_last : (plan : Settings) (facts : Facts) (journal : List Entry) (r : ℕ) → KnowsPlan plan → IsSound plan facts → IsLegal plan facts journal → line_of (facts_after plan facts journal).lines r ≡ value_after (closed_with plan.lists.control) (of_line r) (line_of facts.lines r) journal
 line_by_last plan facts journal r p h legal =
-    decided plan facts (λ (f : Facts). line_of f.lines r) (closed_with plan.control) (of_line r) (λ now event. line_noted plan now.lines event r) journal
+    decided plan facts (λ (f : Facts). line_of f.lines r) (closed_with plan.lists.control) (of_line r) (λ now event. line_noted plan now.lines event r) journal
     (throughout plan facts (Leaves (λ (f : Facts). line_of f.lines r) (of_line r)) (line_left plan r) journal p h legal)
 
 -- calls

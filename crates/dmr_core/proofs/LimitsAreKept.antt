@@ -48,7 +48,7 @@ lined-done plan now act h may g k = h.lined g k
 filter_none : (q : Line → Bool) (ls : List Line) → ls ≡ [] → filter q ls ≡ []
 filter_none q ls h = rw h refl
 
-pub lines-done : (plan : Settings) (now : Facts) (act : Act) → IsSound plan now → MayDo plan now act → is_up (facts_after_act now act) plan.control ≡ false → (facts_after_act now act).lines ≡ []
+pub lines-done : (plan : Settings) (now : Facts) (act : Act) → IsSound plan now → MayDo plan now act → is_up (facts_after_act now act) plan.lists.control ≡ false → (facts_after_act now act).lines ≡ []
 lines-done plan now (Lined l) h may k = cc (may.0)
 lines-done plan now (Unlined q) h may k = filter_none _ now.lines (h.lines k)
 lines-done plan now act h may k = h.lines k
@@ -56,7 +56,7 @@ lines-done plan now act h may k = h.lines k
 no_asks : (q : ActiveAsk → Bool) (xs : List ActiveAsk) → xs ≡ [] → filter q xs ≡ []
 no_asks q xs h = rw h refl
 
-pub asks-done : (plan : Settings) (now : Facts) (act : Act) → IsSound plan now → MayDo plan now act → is_up (facts_after_act now act) plan.control ≡ false → (facts_after_act now act).asks ≡ []
+pub asks-done : (plan : Settings) (now : Facts) (act : Act) → IsSound plan now → MayDo plan now act → is_up (facts_after_act now act) plan.lists.control ≡ false → (facts_after_act now act).asks ≡ []
 asks-done plan now (Asked a) h may k = cc (may.0)
 asks-done plan now (AskOver q) h may k = no_asks _ now.asks (h.asks k)
 asks-done plan now act h may k = h.asks k

@@ -261,8 +261,8 @@ asks_closed asks true all h = order_none ◌==◌ all
 asks_closed asks false all h = h
 
 ask_keeps : (plan : Settings) → Keeps ◌==◌ plan (λ (f : Facts). sources_of_asks f.asks)
-ask_keeps plan now (Up c) all h = asks_closed now.asks (c == plan.control) all h
-ask_keeps plan now (Lost c) all h = asks_closed now.asks (c == plan.control) all h
+ask_keeps plan now (Up c) all h = asks_closed now.asks (c == plan.lists.control) all h
+ask_keeps plan now (Lost c) all h = asks_closed now.asks (c == plan.lists.control) all h
 ask_keeps plan now Tick all h = subst (λ (ys : List ℕ). IsInOrder ◌==◌ all ys) (sym (map_kept (λ (a : ActiveAsk). a.ask.source) ask_after_tick (λ a. refl) now.asks)) h
 ask_keeps plan now _ all h = h
 
@@ -296,8 +296,8 @@ lines_closed lines true all h = order_none ◌==◌ all
 lines_closed lines false all h = h
 
 line_keeps : (plan : Settings) → Keeps ◌==◌ plan (λ (f : Facts). sources_of_lines f.lines)
-line_keeps plan now (Up c) all h = lines_closed now.lines (c == plan.control) all h
-line_keeps plan now (Lost c) all h = lines_closed now.lines (c == plan.control) all h
+line_keeps plan now (Up c) all h = lines_closed now.lines (c == plan.lists.control) all h
+line_keeps plan now (Lost c) all h = lines_closed now.lines (c == plan.lists.control) all h
 line_keeps plan now _ all h = h
 
 pub lines_in_order : (plan : Settings) (facts : Facts) (journal : List Entry) → KnowsPlan plan → IsSound plan facts → IsLegal plan facts journal → IsInOrder ◌==◌ (with_openings lined_by (sources_of_lines facts.lines) journal) (sources_of_lines (facts_after plan facts journal).lines)

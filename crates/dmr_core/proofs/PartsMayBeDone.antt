@@ -47,24 +47,24 @@ copies_may (suc n) plan now slot pdu up small none names room = (
 )
 
 -- no call is active on the control slot
-pub none_on_control : (plan : Settings) (now : Facts) → IsSound plan now → has_call_on now.calls (control_slot plan) ≡ false
-none_on_control plan now h = either (has_call_on now.calls (control_slot plan)) refl
+pub none_on_control : (plan : Settings) (now : Facts) → IsSound plan now → has_call_on now.calls (control_slot plan.lists) ≡ false
+none_on_control plan now h = either (has_call_on now.calls (control_slot plan.lists)) refl
   where
-    either : (b : Bool) → has_call_on now.calls (control_slot plan) ≡ b → b ≡ false
-    either true e = true_false _ (itself (control_slot plan)) (h.payload (control_slot plan) e).apart
+    either : (b : Bool) → has_call_on now.calls (control_slot plan.lists) ≡ b → b ≡ false
+    either true e = true_false _ (itself (control_slot plan.lists)) (h.payload (control_slot plan.lists) e).apart
     either false e = refl
 
-pub ack_may : (plan : Settings) (now : Facts) (source target reason : ℕ) → IsSound plan now → is_up now plan.control ≡ true → length (outbox now (control_slot plan)) < 64 → AllMayDo plan now (ack plan source target reason)
+pub ack_may : (plan : Settings) (now : Facts) (source target reason : ℕ) → IsSound plan now → is_up now plan.lists.control ≡ true → length (outbox now (control_slot plan.lists)) < 64 → AllMayDo plan now (ack plan source target reason)
 ack_may plan now source target reason h up room = (record { up = up; small = omega arith; none = none_on_control plan now h; room = room; names = tt }, tt)
 
-may_name : (plan : Settings) (calls : List ActiveCall) (pdu : Pdu) (b : Bool) → IsGrantOf plan calls pdu → MayName plan calls (control_slot plan) pdu b
+may_name : (plan : Settings) (calls : List ActiveCall) (pdu : Pdu) (b : Bool) → IsGrantOf plan calls pdu → MayName plan calls (control_slot plan.lists) pdu b
 may_name plan calls pdu true h = (refl, h)
 may_name plan calls pdu false h = tt
 
-pub grant_may : (plan : Settings) (now : Facts) (call : Call) (late : Bool) → IsSound plan now → is_up now plan.control ≡ true → call_on now.calls call.slot ≡ Some call → length (outbox now (control_slot plan)) + plan.grant_copies ≤ 64 → AllMayDo plan now (grant plan call late)
+pub grant_may : (plan : Settings) (now : Facts) (call : Call) (late : Bool) → IsSound plan now → is_up now plan.lists.control ≡ true → call_on now.calls call.slot ≡ Some call → length (outbox now (control_slot plan.lists)) + plan.calls.grant_copies ≤ 64 → AllMayDo plan now (grant plan call late)
 unfolding grant
 grant_may plan now call late h up stands room =
-    copies_may plan.grant_copies plan now (control_slot plan) (grant_pdu plan call late) up (omega arith) (none_on_control plan now h)
+    copies_may plan.calls.grant_copies plan now (control_slot plan.lists) (grant_pdu plan call late) up (omega arith) (none_on_control plan now h)
     (may_name plan now.calls (grant_pdu plan call late) (is_grant (grant_pdu plan call late)) (record { call = call; late = late; stands = stands; is = refl })) room
 
 pub left_or : (p : ActiveCall → Bool) (s : ActiveCall) (b : Bool) (rest : List ActiveCall) → p s ≡ b → list_any p rest ≡ false → list_any p (cond (not b) (s ∷ rest) rest) ≡ false
@@ -81,9 +81,9 @@ clear_may plan now call p h stands =
     let on = call_is_active now.calls call.slot call stands in
     let there : IsPayload plan now.up call.slot = h.payload call.slot on.0 in
     let none : length (outbox now call.slot) ≡ 0 = ap (λ (xs : List Pdu). length xs) (h.quiet call.slot on.0) in
-    (tt, copies_may plan.clear_copies plan (facts_after_act now (Ended call.slot)) call.slot (Clear (lpcn_of plan plan.control) call.group call.target plan.tsi) there.is_up there.small (none_left call.slot now.calls) tt (omega (arith, p.few_clears)))
+    (tt, copies_may plan.calls.clear_copies plan (facts_after_act now (Ended call.slot)) call.slot (Clear (lpcn_of plan plan.lists.control) call.group call.target plan.system.tsi) there.is_up there.small (none_left call.slot now.calls) tt (omega (arith, p.few_clears)))
 
-pub begin_may : (plan : Settings) (now : Facts) (call : Call) → KnowsPlan plan → IsSound plan now → is_up now plan.control ≡ true → MayBegin plan now call → length (outbox now (control_slot plan)) + plan.grant_copies ≤ 64 → AllMayDo plan now (begin plan call)
+pub begin_may : (plan : Settings) (now : Facts) (call : Call) → KnowsPlan plan → IsSound plan now → is_up now plan.lists.control ≡ true → MayBegin plan now call → length (outbox now (control_slot plan.lists)) + plan.calls.grant_copies ≤ 64 → AllMayDo plan now (begin plan call)
 begin_may plan now call p h up may room =
     (may, grant_may plan (facts_after_act now (Began call)) call false (sound-done plan now (Began call) p h may) up (call_begun now.calls (just_begun call) (free_is plan now call.slot may.free).none) room)
 
@@ -161,7 +161,7 @@ individual_engage plan now asks source target h fewer apart registered also free
 }
 
 -- one PDU that is not a grant
-pub queue_may : (plan : Settings) (now : Facts) (pdu : Pdu) → is_grant pdu ≡ false → IsSound plan now → is_up now plan.control ≡ true → length (outbox now (control_slot plan)) < 64 → AllMayDo plan now (Queue (control_slot plan) pdu ∷ [])
+pub queue_may : (plan : Settings) (now : Facts) (pdu : Pdu) → is_grant pdu ≡ false → IsSound plan now → is_up now plan.lists.control ≡ true → length (outbox now (control_slot plan.lists)) < 64 → AllMayDo plan now (Queue (control_slot plan.lists) pdu ∷ [])
 queue_may plan now pdu plain h up room = (record { up = up; small = omega arith; none = none_on_control plan now h; room = room; names = rw plain tt }, tt)
 
 -- the slot that is found
@@ -191,5 +191,5 @@ on_slots (s ∷ cs) h =
 pub few_with_free : (plan : Settings) (now : Facts) (slot : Slot) → KnowsPlan plan → IsSound plan now → is_free plan now slot ≡ true → slot.slot < 2 → length now.calls < 31
 few_with_free plan now slot p h free small =
     let f : IsFree plan now slot = free_is plan now slot free in
-    few_calls now.calls (control_slot plan) slot (on_slots now.calls (λ s k. (p.numbers s.carrier (h.payload s k).known, (h.payload s k).small))) h.apart
-    (p.numbers plan.control p.control) (omega arith) (p.numbers slot.carrier f.known) small (none_on_control plan now h) f.none f.apart
+    few_calls now.calls (control_slot plan.lists) slot (on_slots now.calls (λ s k. (p.numbers s.carrier (h.payload s k).known, (h.payload s k).small))) h.apart
+    (p.numbers plan.lists.control p.control) (omega arith) (p.numbers slot.carrier f.known) small (none_on_control plan now h) f.none f.apart

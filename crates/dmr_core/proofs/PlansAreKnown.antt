@@ -51,21 +51,22 @@ one_row (r ∷ rows) a b x y own h k same = either (r.number == a) (r.number == 
     either false true h k more = let e : r ≡ y = cc in true_false _ (clash a x h (same ∙ sym (ap (λ (w : CarrierRow). w.lpcn) e))) own.0
     either false false h k more = more h k same
 
-pub lpcn_is : (plan : Settings) (a : ℕ) (x : CarrierRow) → find (λ r. r.number == a) plan.carriers ≡ Some x → lpcn_of plan a ≡ x.lpcn
+pub lpcn_is : (plan : Settings) (a : ℕ) (x : CarrierRow) → find (λ r. r.number == a) plan.lists.carriers ≡ Some x → lpcn_of plan a ≡ x.lpcn
 lpcn_is plan a x h = rw h refl
 
-channels_apart : (plan : Settings) → HasOwnChannels plan.carriers → (a b : ℕ) → has_carrier plan a ≡ true → has_carrier plan b ≡ true → lpcn_of plan a ≡ lpcn_of plan b → a ≡ b
+channels_apart : (plan : Settings) → HasOwnChannels plan.lists.carriers → (a b : ℕ) → has_carrier plan a ≡ true → has_carrier plan b ≡ true → lpcn_of plan a ≡ lpcn_of plan b → a ≡ b
 channels_apart plan own a b h k same =
-    let x = found_row plan.carriers a h in
-    let y = found_row plan.carriers b k in
-    let one : x.0 ≡ y.0 = one_row plan.carriers a b x.0 y.0 own x.1 y.1 (sym (lpcn_is plan a x.0 x.1) ∙ same ∙ lpcn_is plan b y.0 y.1) in
-    sym (equal_numbers x.0.number a (find_passes (λ r. r.number == a) plan.carriers x.0 x.1)) ∙ ap (λ (r : CarrierRow). r.number) one ∙ equal_numbers y.0.number b (find_passes (λ r. r.number == b) plan.carriers y.0 y.1)
+    let x = found_row plan.lists.carriers a h in
+    let y = found_row plan.lists.carriers b k in
+    let one : x.0 ≡ y.0 =
+    one_row plan.lists.carriers a b x.0 y.0 own x.1 y.1 (sym (lpcn_is plan a x.0 x.1) ∙ same ∙ lpcn_is plan b y.0 y.1) in
+    sym (equal_numbers x.0.number a (find_passes (λ r. r.number == a) plan.lists.carriers x.0 x.1)) ∙ ap (λ (r : CarrierRow). r.number) one ∙ equal_numbers y.0.number b (find_passes (λ r. r.number == b) plan.lists.carriers y.0 y.1)
 
 pub plan_known : (plan : Settings) → IsPlan plan → KnowsPlan plan
 plan_known plan p = record {
-  control = p.control;
-  numbers = λ c h. row_below plan.carriers c p.carriers.each h;
-  channels = channels_apart plan (own_channels plan.carriers p.carriers.apart.lpcns);
-  few_grants = p.grant_copies.1;
-  few_clears = p.clear_copies.1;
+  control = p.lists.control;
+  numbers = λ c h. row_below plan.lists.carriers c p.lists.carriers.each h;
+  channels = channels_apart plan (own_channels plan.lists.carriers p.lists.carriers.apart.lpcns);
+  few_grants = p.calls.grant_copies.1;
+  few_clears = p.calls.clear_copies.1;
 }

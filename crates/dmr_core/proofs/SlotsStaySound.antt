@@ -65,10 +65,10 @@ active_there calls call slot h = either (has_call_on calls slot) (is_slot call.s
 pub record IsFree (plan : Settings) (now : Facts) (slot : Slot) : Type 0 where
   pub known : has_carrier plan slot.carrier ≡ true
   pub up : is_up now slot.carrier ≡ true
-  pub apart : is_slot slot (control_slot plan) ≡ false
+  pub apart : is_slot slot (control_slot plan.lists) ≡ false
   pub none : has_call_on now.calls slot ≡ false
   pub quiet : outbox now slot ≡ []
-  pub ungranted : list_any (names (lpcn_of plan slot.carrier) slot.slot) (outbox now (control_slot plan)) ≡ false
+  pub ungranted : list_any (names (lpcn_of plan slot.carrier) slot.slot) (outbox now (control_slot plan.lists)) ≡ false
 
 empty_is : {X : Type 0} (xs : List X) → is_empty xs ≡ true → xs ≡ []
 empty_is [] h = refl
@@ -133,18 +133,18 @@ pub all_more : (p : Pdu → Bool) (xs : List Pdu) (x : Pdu) → list_all p xs �
 all_more p xs x h k = rw (list_all-append p xs (x ∷ []), h, k) refl
 
 -- a grant only goes to the control slot
-named_there : (plan : Settings) (now : Facts) (slot : Slot) (pdu : Pdu) (b : Bool) → MayName plan now.calls slot pdu b → is_slot slot (control_slot plan) ≡ false → b ≡ false
-named_there plan now slot pdu true may k = true_false _ (rw may.0 (itself (control_slot plan))) k
+named_there : (plan : Settings) (now : Facts) (slot : Slot) (pdu : Pdu) (b : Bool) → MayName plan now.calls slot pdu b → is_slot slot (control_slot plan.lists) ≡ false → b ≡ false
+named_there plan now slot pdu true may k = true_false _ (rw may.0 (itself (control_slot plan.lists))) k
 named_there plan now slot pdu false may k = refl
 
-pub elsewhere-done : (plan : Settings) (now : Facts) (act : Act) → KnowsPlan plan → IsSound plan now → MayDo plan now act → (slot : Slot) → slot.slot < 2 → is_slot slot (control_slot plan) ≡ false → list_any is_grant (outbox (facts_after_act now act) slot) ≡ false
+pub elsewhere-done : (plan : Settings) (now : Facts) (act : Act) → KnowsPlan plan → IsSound plan now → MayDo plan now act → (slot : Slot) → slot.slot < 2 → is_slot slot (control_slot plan.lists) ≡ false → list_any is_grant (outbox (facts_after_act now act) slot) ≡ false
 elsewhere-done plan now (Queue there pdu) p h may slot small k =
-    after_put (λ s b. is_slot s (control_slot plan) ≡ false → list_any is_grant b ≡ false) now.outboxes there _ slot may.small small
+    after_put (λ s b. is_slot s (control_slot plan.lists) ≡ false → list_any is_grant b ≡ false) now.outboxes there _ slot may.small small
     (within_boxes plan now there p h may.up may.small)
     (λ e. any_more is_grant (outbox now there) pdu (h.elsewhere there may.small e) (named_there plan now there pdu (is_grant pdu) may.names e))
     (λ d e. h.elsewhere slot small e) k
 elsewhere-done plan now (Send there pdu) p h may slot small k =
-    after_put (λ s b. is_slot s (control_slot plan) ≡ false → list_any is_grant b ≡ false) now.outboxes there _ slot may.1 small
+    after_put (λ s b. is_slot s (control_slot plan.lists) ≡ false → list_any is_grant b ≡ false) now.outboxes there _ slot may.1 small
     (within_boxes plan now there p h may.0 may.1)
     (λ e. any-drop is_grant (outbox now there) (h.elsewhere there may.1 e))
     (λ d e. h.elsewhere slot small e) k

@@ -29,18 +29,18 @@ new_lowest plan now slot h = chosen (is_empty now.lines) h
     chosen true h = h
     chosen false h = cc
 
-pub begun_may : (plan : Settings) (now : Facts) (call : Call) → KnowsPlan plan → IsSound plan now → is_up now plan.control ≡ true → length (outbox now (control_slot plan)) ≤ 56 → MayEngage plan now now.asks call.group call.source call.target → lowest_free plan now ≡ Some call.slot → AllMayDo plan now (begin plan call)
+pub begun_may : (plan : Settings) (now : Facts) (call : Call) → KnowsPlan plan → IsSound plan now → is_up now plan.lists.control ≡ true → length (outbox now (control_slot plan.lists)) ≤ 56 → MayEngage plan now now.asks call.group call.source call.target → lowest_free plan now ≡ Some call.slot → AllMayDo plan now (begin plan call)
 begun_may plan now call p h up room engage found =
     let free : is_free plan now call.slot ≡ true = lowest_is_free plan now call.slot found in
     let small : call.slot.slot < 2 = lowest_small plan now call.slot found in
     begin_may plan now call p h up (record { free = free; small = small; few = few_with_free plan now call.slot p h free small; engage = engage }) (omega (arith, p.few_grants))
 
-lined_may : (plan : Settings) (now : Facts) (l : Line) → KnowsPlan plan → IsSound plan now → is_up now plan.control ≡ true → length (outbox now (control_slot plan)) ≤ 56 → MayEngage plan now now.asks l.group l.source l.target → nat_lt (length now.lines) 32 ≡ true → AllMayDo plan now (Lined l ∷ ack plan l.source l.target 0xA0)
+lined_may : (plan : Settings) (now : Facts) (l : Line) → KnowsPlan plan → IsSound plan now → is_up now plan.lists.control ≡ true → length (outbox now (control_slot plan.lists)) ≤ 56 → MayEngage plan now now.asks l.group l.source l.target → nat_lt (length now.lines) 32 ≡ true → AllMayDo plan now (Lined l ∷ ack plan l.source l.target 0xA0)
 lined_may plan now l p h up room engage few =
     let may : MayDo plan now (Lined l) = (up, grind (arith, nat_tests), engage) in
     (may, ack_may plan (facts_after_act now (Lined l)) l.source l.target 0xA0 (sound-done plan now (Lined l) p h may) up (omega arith))
 
-pub new_call_may : (plan : Settings) (now : Facts) (l : Line) → KnowsPlan plan → IsSound plan now → is_up now plan.control ≡ true → length (outbox now (control_slot plan)) ≤ 56 → MayEngage plan now now.asks l.group l.source l.target → AllMayDo plan now (acts_for_new_call plan now l)
+pub new_call_may : (plan : Settings) (now : Facts) (l : Line) → KnowsPlan plan → IsSound plan now → is_up now plan.lists.control ≡ true → length (outbox now (control_slot plan.lists)) ≤ 56 → MayEngage plan now now.asks l.group l.source l.target → AllMayDo plan now (acts_for_new_call plan now l)
 unfolding acts_for_new_call
 new_call_may plan now l p h up room engage =
     let begun : (slot : Slot) → slot_for_new_call plan now ≡ Some slot → AllMayDo plan now (begin plan (record { slot = slot; source = l.source; target = l.target; group = l.group })) =
@@ -49,7 +49,7 @@ new_call_may plan now l p h up room engage =
     let acked : (s t reason : ℕ) → AllMayDo plan now (ack plan s t reason) = λ s t reason. ack_may plan now s t reason h up (omega arith) in
     grind (arith, begun, lined, acked)
 
-pub talkgroup_may : (plan : Settings) (now : Facts) (q : Request) → KnowsPlan plan → IsSound plan now → is_up now plan.control ≡ true → length (outbox now (control_slot plan)) ≤ 56 → is_registered now q.source ≡ true → AllMayDo plan now (acts_for_talkgroup_request plan now q)
+pub talkgroup_may : (plan : Settings) (now : Facts) (q : Request) → KnowsPlan plan → IsSound plan now → is_up now plan.lists.control ≡ true → length (outbox now (control_slot plan.lists)) ≤ 56 → is_registered now q.source ≡ true → AllMayDo plan now (acts_for_talkgroup_request plan now q)
 unfolding acts_for_talkgroup_request
 talkgroup_may plan now q p h up room registered =
     let own : (call : Call) → own_group_call now.calls q.source q.target ≡ Some call → AllMayDo plan now (grant plan call false) =

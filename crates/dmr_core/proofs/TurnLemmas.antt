@@ -71,12 +71,12 @@ acts_count (Fill slot pdu ∷ acts) n m h = let next : next_fill_count n ≡ (m 
 acts_count (act ∷ acts) n m h = omega (arith, acts_count acts n m h)
 
 event_counts : (plan : Settings) (n m : ℕ) (event : Event) → n ≡ m % 4 → fills_by_event plan n event ≡ (if is_turn plan event then 0 else m) % 4
-event_counts plan n m (Up c) h = either (c == plan.control)
+event_counts plan n m (Up c) h = either (c == plan.lists.control)
   where
     either : (b : Bool) → (if b then 0 else n) ≡ (if b then 0 else m) % 4
     either true = refl
     either false = h
-event_counts plan n m (Lost c) h = either (c == plan.control)
+event_counts plan n m (Lost c) h = either (c == plan.lists.control)
   where
     either : (b : Bool) → (if b then 0 else n) ≡ (if b then 0 else m) % 4
     either true = refl

@@ -80,7 +80,7 @@ pub record IsPayload (plan : Settings) (up : List Bool) (slot : Slot) : Type 0 w
   pub known : has_carrier plan slot.carrier ≡ true
   pub is_up : slice_index_or up slot.carrier false ≡ true
   pub small : slot.slot < 2
-  pub apart : is_control plan slot ≡ false
+  pub apart : is_control plan.lists slot ≡ false
 
 -- the facts are sound: they fit together, as each field says
 pub record IsSound (plan : Settings) (facts : Facts) : Type 0 where
@@ -93,8 +93,8 @@ pub record IsSound (plan : Settings) (facts : Facts) : Type 0 where
   pub apart : AreOnDistinctSlots facts.calls
   pub payload : (slot : Slot) → has_call_on facts.calls slot ≡ true → IsPayload plan facts.up slot
   pub quiet : (slot : Slot) → has_call_on facts.calls slot ≡ true → outbox facts slot ≡ []
-  pub asks : is_up facts plan.control ≡ false → facts.asks ≡ []
-  pub lines : is_up facts plan.control ≡ false → facts.lines ≡ []
+  pub asks : is_up facts plan.lists.control ≡ false → facts.asks ≡ []
+  pub lines : is_up facts plan.lists.control ≡ false → facts.lines ≡ []
   -- no radio is registered twice; parties are registered and groups listed, and each radio is engaged at most once
   pub distinct : AreDistinct facts.registered
   pub parties : (r : ℕ) → 0 < engagements facts.calls facts.asks facts.lines r
@@ -106,10 +106,10 @@ pub record IsSound (plan : Settings) (facts : Facts) : Type 0 where
   pub down : (slot : Slot) → slot.slot < 2 → is_up facts slot.carrier ≡ false
       → outbox facts slot ≡ []
   -- grants wait for the control slot alone; each is that of the call on its slot, if a call is active there
-  pub elsewhere : (slot : Slot) → slot.slot < 2 → is_control plan slot ≡ false
+  pub elsewhere : (slot : Slot) → slot.slot < 2 → is_control plan.lists slot ≡ false
       → list_any is_grant (outbox facts slot) ≡ false
   pub own : (slot : Slot) (call : Call) → call_on facts.calls slot ≡ Some call
-      → list_all (is_own plan call) (outbox facts (control_slot plan)) ≡ true
+      → list_all (is_own plan call) (outbox facts (control_slot plan.lists)) ≡ true
   -- the limits of counts
   pub few_calls : length facts.calls ≤ most_calls
   pub few_asks : length facts.asks ≤ most_asks
@@ -120,9 +120,9 @@ pub record IsSound (plan : Settings) (facts : Facts) : Type 0 where
   pub ages : All (λ s. (s.age ≤ most_ticks) × (s.quiet ≤ most_ticks)) facts.calls
   pub waits : All (λ a. a.waited ≤ most_ticks) facts.asks
   -- there are 32 noise numbers while the control carrier is up, and none while it is not
-  pub noiseless : is_up facts plan.control ≡ false → facts.noise ≡ []
-  pub window : is_up facts plan.control ≡ true → length facts.noise ≡ polls_of_window
+  pub noiseless : is_up facts plan.lists.control ≡ false → facts.noise ≡ []
+  pub window : is_up facts plan.lists.control ≡ true → length facts.noise ≡ polls_of_window
   -- Fills are counted modulo 4; while the control carrier is down, the count is 0 and there is no last late entry
   pub counted : facts.fills < late_entry_interval
-  pub unfilled : is_up facts plan.control ≡ false → facts.fills ≡ 0
-  pub unnamed : is_up facts plan.control ≡ false → facts.late ≡ None
+  pub unfilled : is_up facts plan.lists.control ≡ false → facts.fills ≡ 0
+  pub unnamed : is_up facts plan.lists.control ≡ false → facts.late ≡ None

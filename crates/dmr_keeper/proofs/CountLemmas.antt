@@ -65,10 +65,10 @@ counted_once plan ticks lines calls (entry ∷ journal) =
     let tick = tick_at ticks entry.event in
     let left = lines_after_entry plan tick lines entry in
     let then = open_after_entry tick lines calls entry in
-    let here = counted-entry plan.hang tick lines calls entry in
+    let here = counted-entry plan.calls.hang tick lines calls entry in
     let later = counted_once plan tick left then journal in
     let begun = length-append (flat_map begun_by entry.acts.list) (begun_in journal) in
-    let ended = length-append (ended_in_entry plan.hang tick lines calls entry) (ended_in plan tick left then journal) in
+    let ended = length-append (ended_in_entry plan.calls.hang tick lines calls entry) (ended_in plan tick left then journal) in
     omega (arith, here, later, begun, ended)
 
 -- ages

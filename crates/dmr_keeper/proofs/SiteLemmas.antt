@@ -95,8 +95,8 @@ cleared true lines = refl
 cleared false lines = refl
 
 lines-event : (plan : Settings) (lines : List OpenLine) (event : Event) → lines_in (lines_after_event plan lines event) ≡ lines_by_event plan (lines_in lines) event
-lines-event plan lines (Up carrier) = cleared (carrier == plan.control) lines
-lines-event plan lines (Lost carrier) = cleared (carrier == plan.control) lines
+lines-event plan lines (Up carrier) = cleared (carrier == plan.lists.control) lines
+lines-event plan lines (Lost carrier) = cleared (carrier == plan.lists.control) lines
 lines-event plan lines _ = refl
 
 lines-act : (tick : ℕ) (lines : List OpenLine) (act : Act) → lines_in (lines_after_act tick lines act) ≡ lines_by_act (lines_in lines) act

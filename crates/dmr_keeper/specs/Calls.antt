@@ -112,7 +112,7 @@ open_after plan ticks lines calls (entry ∷ later) =
 abbrev pub ended_in : Settings → ℕ → List OpenLine → List OpenCall → List Entry → List EndedCall
 ended_in plan ticks lines calls [] = []
 ended_in plan ticks lines calls (entry ∷ later) =
-    ended_in_entry plan.hang (tick_at ticks entry.event) lines calls entry
+    ended_in_entry plan.calls.hang (tick_at ticks entry.event) lines calls entry
     ++ ended_in plan (tick_at ticks entry.event)
     (lines_after_entry plan (tick_at ticks entry.event) lines entry)
     (open_after_entry (tick_at ticks entry.event) lines calls entry) later

@@ -11,11 +11,11 @@ use Rattle.std.proofs.lemmas.List.Sums.{sum_by_push, sum_by-cons, count_by-le-le
 use Rattle.dmr_pdu.specs.declared.slots.Slot.{Slot}
 use Rattle.dmr_pdu.specs.declared.pdu.Pdu.{Pdu}
 use Rattle.dmr_pdu.specs.declared.pdu.Pdu.TheVariants.{PvGrant, TvGrant}
-use Rattle.dmr_plan.specs.declared.settings.Settings.{Settings}
+use Rattle.dmr_plan.specs.declared.sections.ListSection.{ListSection}
 use Rattle.dmr_plan.specs.declared.carriers.CarrierRow.{CarrierRow}
 use Rattle.dmr_plan.specs.Carriers.{row_with}
 use Rattle.dmr_plan.specs.Lists.{has_repeat}
-use Rattle.dmr_plan.specs.IsPlan.{IsPlan}
+use Rattle.dmr_plan.specs.Sections.{IsListSection}
 use Rattle.dmr_pool.specs.Slots.{IsSlot, box, outboxes_without_carrier, place, outboxes_with_pdu, outboxes_after_send, slot_at}
 use Rattle.dmr_pool.specs.Free.{control_slot, is_control, is_granted, names}
 use Rattle.dmr_pool.specs.Grants.{AreCounted, AreOutboxes, grants_of, slot_counted, slot_granted, slot_on_channel}
@@ -72,8 +72,8 @@ tuned (row ∷ rows) c channel h k = either (row.number == c) (channel == row.lp
     either false false e d more = more
 
 -- a grant that names the slot by its carrier's channel
-abbrev pub names_slot : Settings → Slot → Pdu → Bool
-names_slot plan slot pdu = option_map_or (λ (row : CarrierRow). names row.lpcn slot.slot pdu) (row_with plan.carriers slot.carrier) false
+abbrev pub names_slot : ListSection → Slot → Pdu → Bool
+names_slot lists slot pdu = option_map_or (λ (row : CarrierRow). names row.lpcn slot.slot pdu) (row_with lists.carriers slot.carrier) false
 
 -- the slot is the one, if there is one
 abbrev pub is_this : Option Slot → Slot → Bool
@@ -93,21 +93,21 @@ tuned_this : (found : Option CarrierRow) (number : ℕ) (slot : Slot) → is_thi
 tuned_this None number slot = refl
 tuned_this (Some r) number slot = refl
 
-named_tuned : (plan : Settings) (slot : Slot) (channel number : ℕ) → IsPlan plan → option_map_or (λ (row : CarrierRow). (channel == row.lpcn) && (number == slot.slot)) (row_with plan.carriers slot.carrier) false ≡ is_this (slot_on_channel plan channel number) slot
-named_tuned plan slot channel number is =
-    parted (λ (row : CarrierRow). channel == row.lpcn) (number == slot.slot) (row_with plan.carriers slot.carrier)
-    ∙ ap (λ b. b && (number == slot.slot)) (tuned plan.carriers slot.carrier channel is.carriers.apart.numbers is.carriers.apart.lpcns)
-    ∙ sym (tuned_this (find (λ (r : CarrierRow). channel == r.lpcn) plan.carriers) number slot)
+named_tuned : (lists : ListSection) (slot : Slot) (channel number : ℕ) → IsListSection lists → option_map_or (λ (row : CarrierRow). (channel == row.lpcn) && (number == slot.slot)) (row_with lists.carriers slot.carrier) false ≡ is_this (slot_on_channel lists channel number) slot
+named_tuned lists slot channel number is =
+    parted (λ (row : CarrierRow). channel == row.lpcn) (number == slot.slot) (row_with lists.carriers slot.carrier)
+    ∙ ap (λ b. b && (number == slot.slot)) (tuned lists.carriers slot.carrier channel is.carriers.apart.numbers is.carriers.apart.lpcns)
+    ∙ sym (tuned_this (find (λ (r : CarrierRow). channel == r.lpcn) lists.carriers) number slot)
 
 never : (found : Option CarrierRow) → option_map_or (λ (row : CarrierRow). false) found false ≡ false
 never None = refl
 never (Some row) = refl
 
 -- a PDU names the slot that it grants, and no other
-pub named_granted : (plan : Settings) (slot : Slot) (pdu : Pdu) → IsPlan plan → names_slot plan slot pdu ≡ is_this (slot_granted plan pdu) slot
-named_granted plan slot (PvGrant channel number target source) is = named_tuned plan slot channel number is
-named_granted plan slot (TvGrant channel number late target source) is = named_tuned plan slot channel number is
-named_granted plan slot _ is = never (row_with plan.carriers slot.carrier)
+pub named_granted : (lists : ListSection) (slot : Slot) (pdu : Pdu) → IsListSection lists → names_slot lists slot pdu ≡ is_this (slot_granted lists pdu) slot
+named_granted lists slot (PvGrant channel number target source) is = named_tuned lists slot channel number is
+named_granted lists slot (TvGrant channel number late target source) is = named_tuned lists slot channel number is
+named_granted lists slot _ is = never (row_with lists.carriers slot.carrier)
 
 -- a grant waits exactly if the number of those that wait is not 0
 some_count : (p : Pdu → Bool) (xs : List Pdu) → list_any p xs ≡ nat_lt 0 (count_by p xs)
@@ -121,13 +121,13 @@ some_count p (x ∷ xs) = either (p x) refl (some_count p xs)
         positive n = grind (arith, nat_tests)
     either false e more = let n : count_by p (x ∷ xs) ≡ count_by p xs = sum_by-cons (λ y. cond (p y) 1 0) x xs ∙ ap (λ b. cond b 1 0 + count_by p xs) e ∙ zero-add (count_by p xs) in rw n more
 
-pub granted_count : (plan : Settings) (outboxes : List (List Pdu)) (slot : Slot) → is_granted plan outboxes slot ≡ nat_lt 0 (grants_of plan outboxes slot)
-granted_count plan outboxes slot = either (row_with plan.carriers slot.carrier)
+pub granted_count : (lists : ListSection) (outboxes : List (List Pdu)) (slot : Slot) → is_granted lists outboxes slot ≡ nat_lt 0 (grants_of lists outboxes slot)
+granted_count lists outboxes slot = either (row_with lists.carriers slot.carrier)
   where
-    either : (found : Option CarrierRow) → option_map_or (λ (row : CarrierRow). list_any (names row.lpcn slot.slot) (box outboxes (control_slot plan))) found false
-        ≡ nat_lt 0 (option_map_or (λ (row : CarrierRow). count_by (names row.lpcn slot.slot) (box outboxes (control_slot plan))) found 0)
+    either : (found : Option CarrierRow) → option_map_or (λ (row : CarrierRow). list_any (names row.lpcn slot.slot) (box outboxes (control_slot lists))) found false
+        ≡ nat_lt 0 (option_map_or (λ (row : CarrierRow). count_by (names row.lpcn slot.slot) (box outboxes (control_slot lists))) found 0)
     either None = refl
-    either (Some row) = some_count (names row.lpcn slot.slot) (box outboxes (control_slot plan))
+    either (Some row) = some_count (names row.lpcn slot.slot) (box outboxes (control_slot lists))
 
 -- the number of waiting grants of a slot after a PDU is added to the control slot's outbox
 counted_more : (p : Pdu → Bool) (xs : List Pdu) (x : Pdu) → count_by p (xs ++ x ∷ []) ≡ count_by p xs + cond (p x) 1 0
@@ -138,11 +138,11 @@ counted_less p [] x h = cc
 counted_less p (y ∷ ys) x h = let same : y ≡ x = cc in sum_by-cons (λ z. cond (p z) 1 0) y ys ∙ (rw same (omega arith))
 
 -- the number of grants of a slot among PDUs
-abbrev pub grants_in : Settings → List Pdu → Slot → ℕ
-grants_in plan xs slot = option_map_or (λ (row : CarrierRow). count_by (names row.lpcn slot.slot) xs) (row_with plan.carriers slot.carrier) 0
+abbrev pub grants_in : ListSection → List Pdu → Slot → ℕ
+grants_in lists xs slot = option_map_or (λ (row : CarrierRow). count_by (names row.lpcn slot.slot) xs) (row_with lists.carriers slot.carrier) 0
 
-in_more : (plan : Settings) (xs : List Pdu) (pdu : Pdu) (slot : Slot) → grants_in plan (xs ++ pdu ∷ []) slot ≡ grants_in plan xs slot + cond (names_slot plan slot pdu) 1 0
-in_more plan xs pdu slot = either (row_with plan.carriers slot.carrier)
+in_more : (lists : ListSection) (xs : List Pdu) (pdu : Pdu) (slot : Slot) → grants_in lists (xs ++ pdu ∷ []) slot ≡ grants_in lists xs slot + cond (names_slot lists slot pdu) 1 0
+in_more lists xs pdu slot = either (row_with lists.carriers slot.carrier)
   where
     counted : List Pdu → Option CarrierRow → ℕ
     counted ys found = option_map_or (λ (row : CarrierRow). count_by (names row.lpcn slot.slot) ys) found 0
@@ -151,8 +151,8 @@ in_more plan xs pdu slot = either (row_with plan.carriers slot.carrier)
     either None = refl
     either (Some row) = counted_more (names row.lpcn slot.slot) xs pdu
 
-in_less : (plan : Settings) (xs : List Pdu) (pdu : Pdu) (slot : Slot) → slice_get xs 0 ≡ Some pdu → grants_in plan xs slot ≡ grants_in plan (drop 1 xs) slot + cond (names_slot plan slot pdu) 1 0
-in_less plan xs pdu slot first = either (row_with plan.carriers slot.carrier)
+in_less : (lists : ListSection) (xs : List Pdu) (pdu : Pdu) (slot : Slot) → slice_get xs 0 ≡ Some pdu → grants_in lists xs slot ≡ grants_in lists (drop 1 xs) slot + cond (names_slot lists slot pdu) 1 0
+in_less lists xs pdu slot first = either (row_with lists.carriers slot.carrier)
   where
     counted : List Pdu → Option CarrierRow → ℕ
     counted ys found = option_map_or (λ (row : CarrierRow). count_by (names row.lpcn slot.slot) ys) found 0
@@ -161,8 +161,8 @@ in_less plan xs pdu slot first = either (row_with plan.carriers slot.carrier)
     either None = refl
     either (Some row) = counted_less (names row.lpcn slot.slot) xs pdu first
 
-in_few : (plan : Settings) (xs : List Pdu) (slot : Slot) → grants_in plan xs slot ≤ length xs
-in_few plan xs slot = either (row_with plan.carriers slot.carrier)
+in_few : (lists : ListSection) (xs : List Pdu) (slot : Slot) → grants_in lists xs slot ≤ length xs
+in_few lists xs slot = either (row_with lists.carriers slot.carrier)
   where
     either : (found : Option CarrierRow) → option_map_or (λ (row : CarrierRow). count_by (names row.lpcn slot.slot) xs) found 0 ≤ length xs
     either None = omega arith
@@ -174,58 +174,61 @@ both true true h = (refl, refl)
 both true false h = cc
 both false b h = cc
 
-control_is : (plan : Settings) (slot : Slot) → is_control plan slot ≡ true → slot ≡ control_slot plan
-control_is plan slot h =
-    let parts = both (slot.carrier == plan.control) (slot.slot == 0) h in
-    let carrier : slot.carrier ≡ plan.control = eqb-true slot.carrier plan.control parts.0 in
+control_is : (lists : ListSection) (slot : Slot) → is_control lists slot ≡ true → slot ≡ control_slot lists
+control_is lists slot h =
+    let parts = both (slot.carrier == lists.control) (slot.slot == 0) h in
+    let carrier : slot.carrier ≡ lists.control = eqb-true slot.carrier lists.control parts.0 in
     let number : slot.slot ≡ 0 = eqb-true slot.slot 0 parts.1 in
     λ i. record { carrier = carrier i; slot = number i }
 
-control_apart : (plan : Settings) (slot : Slot) → slot.slot < 2 → is_control plan slot ≡ false → place (control_slot plan) ≢ place slot
-control_apart plan slot small h = λ same. absurd (apart slot.carrier plan.control slot.slot small (omega (arith, same)) (omega (arith, same)) h)
+control_apart : (lists : ListSection) (slot : Slot) → slot.slot < 2 → is_control lists slot ≡ false
+    → place (control_slot lists) ≢ place slot
+control_apart lists slot small h = λ same. absurd (apart slot.carrier lists.control slot.slot small (omega (arith, same)) (omega (arith, same)) h)
   where
     apart : (c d s : ℕ) → s < 2 → c ≡ d → s ≡ 0 → ((c == d) && (s == 0)) ≡ false → ⊥
     apart c d s small e k h = grind (arith, nat_tests)
 
 -- the control slot's outbox after a slot's outbox was changed
-control_box : (plan : Settings) (outboxes : List (List Pdu)) (slot : Slot) (xs : List Pdu) → is_control plan slot ≡ true → place slot < length outboxes → box (slice_set outboxes (place slot) xs) (control_slot plan) ≡ xs
-control_box plan outboxes slot xs h within =
-    subst (λ (s : Slot). box (slice_set outboxes (place slot) xs) s ≡ xs) (control_is plan slot h) (get_or-set_same outboxes (place slot) xs [] within)
+control_box : (lists : ListSection) (outboxes : List (List Pdu)) (slot : Slot) (xs : List Pdu) → is_control lists slot ≡ true → place slot < length outboxes → box (slice_set outboxes (place slot) xs) (control_slot lists) ≡ xs
+control_box lists outboxes slot xs h within =
+    subst (λ (s : Slot). box (slice_set outboxes (place slot) xs) s ≡ xs) (control_is lists slot h) (get_or-set_same outboxes (place slot) xs [] within)
 
-other_box : (plan : Settings) (outboxes : List (List Pdu)) (slot : Slot) (xs : List Pdu) → slot.slot < 2 → is_control plan slot ≡ false → box (slice_set outboxes (place slot) xs) (control_slot plan) ≡ box outboxes (control_slot plan)
-other_box plan outboxes slot xs small h = get_or-set_other outboxes (place slot) (place (control_slot plan)) xs [] (control_apart plan slot small h)
+other_box : (lists : ListSection) (outboxes : List (List Pdu)) (slot : Slot) (xs : List Pdu) → slot.slot < 2 → is_control lists slot ≡ false → box (slice_set outboxes (place slot) xs) (control_slot lists) ≡ box outboxes (control_slot lists)
+other_box lists outboxes slot xs small h = get_or-set_other outboxes (place slot) (place (control_slot lists)) xs [] (control_apart lists slot small h)
 
 -- the slot whose count changes
-named_counted : (plan : Settings) (slot s : Slot) (pdu : Pdu) → IsPlan plan → (is_control plan slot && names_slot plan s pdu) ≡ is_this (slot_counted plan slot pdu) s
-named_counted plan slot s pdu is = either (is_control plan slot)
+named_counted : (lists : ListSection) (slot s : Slot) (pdu : Pdu) → IsListSection lists → (is_control lists slot && names_slot lists s pdu) ≡ is_this (slot_counted lists slot pdu) s
+named_counted lists slot s pdu is = either (is_control lists slot)
   where
-    either : (b : Bool) → (b && names_slot plan s pdu) ≡ is_this (if b then slot_granted plan pdu else None) s
-    either true = named_granted plan s pdu is
+    either : (b : Bool) → (b && names_slot lists s pdu) ≡ is_this (if b then slot_granted lists pdu else None) s
+    either true = named_granted lists s pdu is
     either false = refl
 
 -- the number of waiting grants of each slot after a PDU is added to an outbox
-pub grants_queued : (plan : Settings) (outboxes : List (List Pdu)) (slot s : Slot) (pdu : Pdu) → IsPlan plan → IsSlot slot → place slot < length outboxes
-    → grants_of plan (outboxes_with_pdu outboxes slot pdu) s ≡ grants_of plan outboxes s + cond (is_this (slot_counted plan slot pdu) s) 1 0
-grants_queued plan outboxes slot s pdu is_plan is within = either (is_control plan slot) refl ∙ ap (λ b. grants_of plan outboxes s + cond b 1 0) (named_counted plan slot s pdu is_plan)
+pub grants_queued : (lists : ListSection) (outboxes : List (List Pdu)) (slot s : Slot) (pdu : Pdu) → IsListSection lists → IsSlot slot → place slot < length outboxes
+    → grants_of lists (outboxes_with_pdu outboxes slot pdu) s
+    ≡ grants_of lists outboxes s + cond (is_this (slot_counted lists slot pdu) s) 1 0
+grants_queued lists outboxes slot s pdu are_lists is within = either (is_control lists slot) refl ∙ ap (λ b. grants_of lists outboxes s + cond b 1 0) (named_counted lists slot s pdu are_lists)
   where
-    either : (b : Bool) → is_control plan slot ≡ b → grants_of plan (outboxes_with_pdu outboxes slot pdu) s ≡ grants_of plan outboxes s + cond (b && names_slot plan s pdu) 1 0
+    either : (b : Bool) → is_control lists slot ≡ b → grants_of lists (outboxes_with_pdu outboxes slot pdu) s ≡ grants_of lists outboxes s + cond (b && names_slot lists s pdu) 1 0
     either true e =
-        ap (λ (xs : List Pdu). grants_in plan xs s) (control_box plan outboxes slot (box outboxes slot ++ pdu ∷ []) e within ∙ ap (λ (t : Slot). box outboxes t ++ pdu ∷ []) (control_is plan slot e))
-        ∙ in_more plan (box outboxes (control_slot plan)) pdu s
-    either false e = ap (λ (xs : List Pdu). grants_in plan xs s) (other_box plan outboxes slot (box outboxes slot ++ pdu ∷ []) is.1 e) ∙ omega arith
+        ap (λ (xs : List Pdu). grants_in lists xs s) (control_box lists outboxes slot (box outboxes slot ++ pdu ∷ []) e within ∙ ap (λ (t : Slot). box outboxes t ++ pdu ∷ []) (control_is lists slot e))
+        ∙ in_more lists (box outboxes (control_slot lists)) pdu s
+    either false e = ap (λ (xs : List Pdu). grants_in lists xs s) (other_box lists outboxes slot (box outboxes slot ++ pdu ∷ []) is.1 e) ∙ omega arith
 
 -- the same after one is removed
-pub grants_sent : (plan : Settings) (outboxes : List (List Pdu)) (slot s : Slot) (pdu : Pdu) → IsPlan plan → IsSlot slot → place slot < length outboxes → slice_get (box outboxes slot) 0 ≡ Some pdu
-    → grants_of plan outboxes s ≡ grants_of plan (outboxes_after_send outboxes slot) s + cond (is_this (slot_counted plan slot pdu) s) 1 0
-grants_sent plan outboxes slot s pdu is_plan is within first = either (is_control plan slot) refl ∙ ap (λ b. grants_of plan (outboxes_after_send outboxes slot) s + cond b 1 0) (named_counted plan slot s pdu is_plan)
+pub grants_sent : (lists : ListSection) (outboxes : List (List Pdu)) (slot s : Slot) (pdu : Pdu) → IsListSection lists → IsSlot slot → place slot < length outboxes → slice_get (box outboxes slot) 0 ≡ Some pdu
+    → grants_of lists outboxes s
+    ≡ grants_of lists (outboxes_after_send outboxes slot) s + cond (is_this (slot_counted lists slot pdu) s) 1 0
+grants_sent lists outboxes slot s pdu are_lists is within first = either (is_control lists slot) refl ∙ ap (λ b. grants_of lists (outboxes_after_send outboxes slot) s + cond b 1 0) (named_counted lists slot s pdu are_lists)
   where
-    either : (b : Bool) → is_control plan slot ≡ b → grants_of plan outboxes s ≡ grants_of plan (outboxes_after_send outboxes slot) s + cond (b && names_slot plan s pdu) 1 0
+    either : (b : Bool) → is_control lists slot ≡ b → grants_of lists outboxes s ≡ grants_of lists (outboxes_after_send outboxes slot) s + cond (b && names_slot lists s pdu) 1 0
     either true e =
-        let there : box (outboxes_after_send outboxes slot) (control_slot plan) ≡ drop 1 (box outboxes (control_slot plan)) =
-        control_box plan outboxes slot (drop 1 (box outboxes slot)) e within ∙ ap (λ (t : Slot). drop 1 (box outboxes t)) (control_is plan slot e) in
-        in_less plan (box outboxes (control_slot plan)) pdu s (subst (λ (t : Slot). slice_get (box outboxes t) 0 ≡ Some pdu) (control_is plan slot e) first)
-        ∙ ap (λ (xs : List Pdu). grants_in plan xs s + cond (names_slot plan s pdu) 1 0) (sym there)
-    either false e = ap (λ (xs : List Pdu). grants_in plan xs s) (sym (other_box plan outboxes slot (drop 1 (box outboxes slot)) is.1 e)) ∙ omega arith
+        let there : box (outboxes_after_send outboxes slot) (control_slot lists) ≡ drop 1 (box outboxes (control_slot lists)) =
+        control_box lists outboxes slot (drop 1 (box outboxes slot)) e within ∙ ap (λ (t : Slot). drop 1 (box outboxes t)) (control_is lists slot e) in
+        in_less lists (box outboxes (control_slot lists)) pdu s (subst (λ (t : Slot). slice_get (box outboxes t) 0 ≡ Some pdu) (control_is lists slot e) first)
+        ∙ ap (λ (xs : List Pdu). grants_in lists xs s + cond (names_slot lists s pdu) 1 0) (sym there)
+    either false e = ap (λ (xs : List Pdu). grants_in lists xs s) (sym (other_box lists outboxes slot (drop 1 (box outboxes slot)) is.1 e)) ∙ omega arith
 
 -- a slot is the one at a place exactly if the place is its own
 pub this_at : (s : Slot) (k : ℕ) → s.slot < 2 → is_this (Some s) (slot_at k) ≡ (k == place s)
@@ -260,36 +263,36 @@ lowered counts at k within some = either (k == at) refl
     either false e = sym (get_or-set_other counts at k (slice_index_or counts at 0 - 1) 0 (eqb-false k at e)) ∙ omega arith
 
 -- the counts after a PDU is added that is not a grant of the site's slots
-pub queued_uncounted : (plan : Settings) (outboxes : List (List Pdu)) (counts : List ℕ) (slot : Slot) (pdu : Pdu) → IsPlan plan → IsSlot slot → place slot < length outboxes → slot_counted plan slot pdu ≡ None
-    → AreCounted plan outboxes counts → AreCounted plan (outboxes_with_pdu outboxes slot pdu) counts
-queued_uncounted plan outboxes counts slot pdu is_plan is within none counted k below =
-    counted k below ∙ sym (grants_queued plan outboxes slot (slot_at k) pdu is_plan is within ∙ ap (λ (t : Option Slot). grants_of plan outboxes (slot_at k) + cond (is_this t (slot_at k)) 1 0) none ∙ omega arith)
+pub queued_uncounted : (lists : ListSection) (outboxes : List (List Pdu)) (counts : List ℕ) (slot : Slot) (pdu : Pdu) → IsListSection lists → IsSlot slot → place slot < length outboxes → slot_counted lists slot pdu ≡ None
+    → AreCounted lists outboxes counts → AreCounted lists (outboxes_with_pdu outboxes slot pdu) counts
+queued_uncounted lists outboxes counts slot pdu are_lists is within none counted k below =
+    counted k below ∙ sym (grants_queued lists outboxes slot (slot_at k) pdu are_lists is within ∙ ap (λ (t : Option Slot). grants_of lists outboxes (slot_at k) + cond (is_this t (slot_at k)) 1 0) none ∙ omega arith)
 
 -- the counts after a grant is added
-pub queued_counted : (plan : Settings) (outboxes : List (List Pdu)) (counts : List ℕ) (slot granted : Slot) (pdu : Pdu) → IsPlan plan → IsSlot slot → place slot < length outboxes → slot_counted plan slot pdu ≡ Some granted → IsSlot granted → length counts ≡ 32
-    → AreCounted plan outboxes counts → AreCounted plan (outboxes_with_pdu outboxes slot pdu) (slice_set counts (place granted) (slice_index_or counts (place granted) 0 + 1))
-queued_counted plan outboxes counts slot granted pdu is_plan is within one is_granted size counted k below =
+pub queued_counted : (lists : ListSection) (outboxes : List (List Pdu)) (counts : List ℕ) (slot granted : Slot) (pdu : Pdu) → IsListSection lists → IsSlot slot → place slot < length outboxes → slot_counted lists slot pdu ≡ Some granted → IsSlot granted → length counts ≡ 32
+    → AreCounted lists outboxes counts → AreCounted lists (outboxes_with_pdu outboxes slot pdu) (slice_set counts (place granted) (slice_index_or counts (place granted) 0 + 1))
+queued_counted lists outboxes counts slot granted pdu are_lists is within one is_granted size counted k below =
     raised counts (place granted) k (omega (arith, is_granted.0, is_granted.1, size))
     ∙ ap (λ n. n + cond (k == place granted) 1 0) (counted k below)
-    ∙ ap (λ b. grants_of plan outboxes (slot_at k) + cond b 1 0) (sym (this_at granted k is_granted.1))
-    ∙ ap (λ (t : Option Slot). grants_of plan outboxes (slot_at k) + cond (is_this t (slot_at k)) 1 0) (sym one)
-    ∙ sym (grants_queued plan outboxes slot (slot_at k) pdu is_plan is within)
+    ∙ ap (λ b. grants_of lists outboxes (slot_at k) + cond b 1 0) (sym (this_at granted k is_granted.1))
+    ∙ ap (λ (t : Option Slot). grants_of lists outboxes (slot_at k) + cond (is_this t (slot_at k)) 1 0) (sym one)
+    ∙ sym (grants_queued lists outboxes slot (slot_at k) pdu are_lists is within)
 
 -- the counts after a PDU is removed that is not a grant of the site's slots
-pub sent_uncounted : (plan : Settings) (outboxes : List (List Pdu)) (counts : List ℕ) (slot : Slot) (pdu : Pdu) → IsPlan plan → IsSlot slot → place slot < length outboxes → slice_get (box outboxes slot) 0 ≡ Some pdu → slot_counted plan slot pdu ≡ None
-    → AreCounted plan outboxes counts → AreCounted plan (outboxes_after_send outboxes slot) counts
-sent_uncounted plan outboxes counts slot pdu is_plan is within first none counted k below =
-    counted k below ∙ grants_sent plan outboxes slot (slot_at k) pdu is_plan is within first ∙ ap (λ (t : Option Slot). grants_of plan (outboxes_after_send outboxes slot) (slot_at k) + cond (is_this t (slot_at k)) 1 0) none ∙ omega arith
+pub sent_uncounted : (lists : ListSection) (outboxes : List (List Pdu)) (counts : List ℕ) (slot : Slot) (pdu : Pdu) → IsListSection lists → IsSlot slot → place slot < length outboxes → slice_get (box outboxes slot) 0 ≡ Some pdu → slot_counted lists slot pdu ≡ None
+    → AreCounted lists outboxes counts → AreCounted lists (outboxes_after_send outboxes slot) counts
+sent_uncounted lists outboxes counts slot pdu are_lists is within first none counted k below =
+    counted k below ∙ grants_sent lists outboxes slot (slot_at k) pdu are_lists is within first ∙ ap (λ (t : Option Slot). grants_of lists (outboxes_after_send outboxes slot) (slot_at k) + cond (is_this t (slot_at k)) 1 0) none ∙ omega arith
 
 -- the counts after a grant is removed: at least one waited
-pub some_waited : (plan : Settings) (outboxes : List (List Pdu)) (counts : List ℕ) (slot granted : Slot) (pdu : Pdu) → IsPlan plan → IsSlot slot → place slot < length outboxes → slice_get (box outboxes slot) 0 ≡ Some pdu → slot_counted plan slot pdu ≡ Some granted → IsSlot granted
-    → AreCounted plan outboxes counts → 1 ≤ slice_index_or counts (place granted) 0
-some_waited plan outboxes counts slot granted pdu is_plan is within first one is_granted counted =
+pub some_waited : (lists : ListSection) (outboxes : List (List Pdu)) (counts : List ℕ) (slot granted : Slot) (pdu : Pdu) → IsListSection lists → IsSlot slot → place slot < length outboxes → slice_get (box outboxes slot) 0 ≡ Some pdu → slot_counted lists slot pdu ≡ Some granted → IsSlot granted
+    → AreCounted lists outboxes counts → 1 ≤ slice_index_or counts (place granted) 0
+some_waited lists outboxes counts slot granted pdu are_lists is within first one is_granted counted =
     let here : is_this (Some granted) (slot_at (place granted)) ≡ true = this_at granted (place granted) is_granted.1 ∙ itself (place granted) in
-    let more : grants_of plan outboxes (slot_at (place granted)) ≡ grants_of plan (outboxes_after_send outboxes slot) (slot_at (place granted)) + 1 =
-    grants_sent plan outboxes slot (slot_at (place granted)) pdu is_plan is within first
-    ∙ ap (λ (t : Option Slot). grants_of plan (outboxes_after_send outboxes slot) (slot_at (place granted)) + cond (is_this t (slot_at (place granted))) 1 0) one
-    ∙ ap (λ b. grants_of plan (outboxes_after_send outboxes slot) (slot_at (place granted)) + cond b 1 0) here in
+    let more : grants_of lists outboxes (slot_at (place granted)) ≡ grants_of lists (outboxes_after_send outboxes slot) (slot_at (place granted)) + 1 =
+    grants_sent lists outboxes slot (slot_at (place granted)) pdu are_lists is within first
+    ∙ ap (λ (t : Option Slot). grants_of lists (outboxes_after_send outboxes slot) (slot_at (place granted)) + cond (is_this t (slot_at (place granted))) 1 0) one
+    ∙ ap (λ b. grants_of lists (outboxes_after_send outboxes slot) (slot_at (place granted)) + cond b 1 0) here in
     at_least (slice_index_or counts (place granted) 0) _ (counted (place granted) (omega (arith, is_granted.0, is_granted.1)) ∙ more)
   where
     itself : (n : ℕ) → (n == n) ≡ true
@@ -298,24 +301,24 @@ some_waited plan outboxes counts slot granted pdu is_plan is within first one is
     at_least : (m n : ℕ) → m ≡ n + 1 → 1 ≤ m
     at_least m n e = omega arith
 
-pub sent_counted : (plan : Settings) (outboxes : List (List Pdu)) (counts : List ℕ) (slot granted : Slot) (pdu : Pdu) → IsPlan plan → IsSlot slot → place slot < length outboxes → slice_get (box outboxes slot) 0 ≡ Some pdu → slot_counted plan slot pdu ≡ Some granted → IsSlot granted → length counts ≡ 32
-    → AreCounted plan outboxes counts → AreCounted plan (outboxes_after_send outboxes slot) (slice_set counts (place granted) (slice_index_or counts (place granted) 0 - 1))
-sent_counted plan outboxes counts slot granted pdu is_plan is within first one is_granted size counted k below =
+pub sent_counted : (lists : ListSection) (outboxes : List (List Pdu)) (counts : List ℕ) (slot granted : Slot) (pdu : Pdu) → IsListSection lists → IsSlot slot → place slot < length outboxes → slice_get (box outboxes slot) 0 ≡ Some pdu → slot_counted lists slot pdu ≡ Some granted → IsSlot granted → length counts ≡ 32
+    → AreCounted lists outboxes counts → AreCounted lists (outboxes_after_send outboxes slot) (slice_set counts (place granted) (slice_index_or counts (place granted) 0 - 1))
+sent_counted lists outboxes counts slot granted pdu are_lists is within first one is_granted size counted k below =
     cancelled _ _ (cond (k == place granted) 1 0) (
-    sym (lowered counts (place granted) k (omega (arith, is_granted.0, is_granted.1, size)) (some_waited plan outboxes counts slot granted pdu is_plan is within first one is_granted counted))
+    sym (lowered counts (place granted) k (omega (arith, is_granted.0, is_granted.1, size)) (some_waited lists outboxes counts slot granted pdu are_lists is within first one is_granted counted))
     ∙ counted k below
-    ∙ grants_sent plan outboxes slot (slot_at k) pdu is_plan is within first
-    ∙ ap (λ (t : Option Slot). grants_of plan (outboxes_after_send outboxes slot) (slot_at k) + cond (is_this t (slot_at k)) 1 0) one
-    ∙ ap (λ b. grants_of plan (outboxes_after_send outboxes slot) (slot_at k) + cond b 1 0) (this_at granted k is_granted.1)
+    ∙ grants_sent lists outboxes slot (slot_at k) pdu are_lists is within first
+    ∙ ap (λ (t : Option Slot). grants_of lists (outboxes_after_send outboxes slot) (slot_at k) + cond (is_this t (slot_at k)) 1 0) one
+    ∙ ap (λ b. grants_of lists (outboxes_after_send outboxes slot) (slot_at k) + cond b 1 0) (this_at granted k is_granted.1)
     )
   where
     cancelled : (m n d : ℕ) → m + d ≡ n + d → m ≡ n
     cancelled m n d e = omega arith
 
 -- the count of a slot is not 0 exactly if a grant of it waits
-pub counted_granted : (plan : Settings) (outboxes : List (List Pdu)) (counts : List ℕ) (slot : Slot) (k : ℕ) → IsSlot slot → k ≡ place slot → AreCounted plan outboxes counts → nat_lt 0 (slice_index_or counts k 0) ≡ is_granted plan outboxes slot
-counted_granted plan outboxes counts slot k is at counted =
-    ap (nat_lt 0) (counted k (omega (arith, is.0, is.1)) ∙ ap (grants_of plan outboxes) (ap slot_at at ∙ slot_at-place slot is)) ∙ sym (granted_count plan outboxes slot)
+pub counted_granted : (lists : ListSection) (outboxes : List (List Pdu)) (counts : List ℕ) (slot : Slot) (k : ℕ) → IsSlot slot → k ≡ place slot → AreCounted lists outboxes counts → nat_lt 0 (slice_index_or counts k 0) ≡ is_granted lists outboxes slot
+counted_granted lists outboxes counts slot k is at counted =
+    ap (nat_lt 0) (counted k (omega (arith, is.0, is.1)) ∙ ap (grants_of lists outboxes) (ap slot_at at ∙ slot_at-place slot is)) ∙ sym (granted_count lists outboxes slot)
 
 few_there : (outboxes : List (List Pdu)) (k : ℕ) → All (λ box. length box ≤ 64) outboxes → length (slice_index_or outboxes k []) ≤ 64
 few_there outboxes k few = either (cases_lt k (length outboxes))
@@ -330,8 +333,8 @@ few_there outboxes k few = either (cases_lt k (length outboxes))
     either (inr beyond) = past outboxes k beyond
 
 -- a count is at most the number of PDUs that wait for the control slot
-pub few_counted : (plan : Settings) (outboxes : List (List Pdu)) (counts : List ℕ) (k : ℕ) → k < 32 → All (λ box. length box ≤ 64) outboxes → AreCounted plan outboxes counts → slice_index_or counts k 0 ≤ 64
-few_counted plan outboxes counts k below few counted = omega (arith, counted k below, in_few plan (box outboxes (control_slot plan)) (slot_at k), few_there outboxes (place (control_slot plan)) few)
+pub few_counted : (lists : ListSection) (outboxes : List (List Pdu)) (counts : List ℕ) (k : ℕ) → k < 32 → All (λ box. length box ≤ 64) outboxes → AreCounted lists outboxes counts → slice_index_or counts k 0 ≤ 64
+few_counted lists outboxes counts k below few counted = omega (arith, counted k below, in_few lists (box outboxes (control_slot lists)) (slot_at k), few_there outboxes (place (control_slot lists)) few)
 
 -- the slots of a carrier are emptied
 zeros : (n k : ℕ) → slice_index_or {A = ℕ} (replicate n 0) k 0 ≡ 0
@@ -339,28 +342,28 @@ zeros zero k = refl
 zeros (suc n) zero = refl
 zeros (suc n) (suc k) = zeros n k
 
-pub emptied_control : (plan : Settings) (outboxes : List (List Pdu)) (c : ℕ) → c ≡ plan.control → 2 * c + 1 < length outboxes → AreCounted plan (outboxes_without_carrier outboxes c) (replicate 32 0)
-emptied_control plan outboxes c is within k below = zeros 32 k ∙ sym (ap (λ (xs : List Pdu). grants_in plan xs (slot_at k)) gone ∙ none (row_with plan.carriers ((slot_at k).carrier)))
+pub emptied_control : (lists : ListSection) (outboxes : List (List Pdu)) (c : ℕ) → c ≡ lists.control → 2 * c + 1 < length outboxes → AreCounted lists (outboxes_without_carrier outboxes c) (replicate 32 0)
+emptied_control lists outboxes c is within k below = zeros 32 k ∙ sym (ap (λ (xs : List Pdu). grants_in lists xs (slot_at k)) gone ∙ none (row_with lists.carriers ((slot_at k).carrier)))
   where
-    first : 2 * c ≡ place (control_slot plan)
+    first : 2 * c ≡ place (control_slot lists)
     first = omega (arith, is)
 
-    gone : box (outboxes_without_carrier outboxes c) (control_slot plan) ≡ []
+    gone : box (outboxes_without_carrier outboxes c) (control_slot lists) ≡ []
     gone =
-        get_or-set_other (slice_set outboxes (2 * c) []) (2 * c + 1) (place (control_slot plan)) [] [] (λ same. absurd (omega (arith, same)))
+        get_or-set_other (slice_set outboxes (2 * c) []) (2 * c + 1) (place (control_slot lists)) [] [] (λ same. absurd (omega (arith, same)))
         ∙ subst (λ n. slice_index_or (slice_set outboxes (2 * c) []) n [] ≡ []) first (get_or-set_same outboxes (2 * c) [] [] (omega arith))
 
     none : (found : Option CarrierRow) → option_map_or (λ (row : CarrierRow). count_by (names row.lpcn ((slot_at k).slot)) []) found 0 ≡ 0
     none None = refl
     none (Some row) = refl
 
-pub emptied_other : (plan : Settings) (outboxes : List (List Pdu)) (counts : List ℕ) (c : ℕ) → c ≢ plan.control → AreCounted plan outboxes counts → AreCounted plan (outboxes_without_carrier outboxes c) counts
-emptied_other plan outboxes counts c apart counted k below = counted k below ∙ sym (ap (λ (xs : List Pdu). grants_in plan xs (slot_at k)) stays)
+pub emptied_other : (lists : ListSection) (outboxes : List (List Pdu)) (counts : List ℕ) (c : ℕ) → c ≢ lists.control → AreCounted lists outboxes counts → AreCounted lists (outboxes_without_carrier outboxes c) counts
+emptied_other lists outboxes counts c apart counted k below = counted k below ∙ sym (ap (λ (xs : List Pdu). grants_in lists xs (slot_at k)) stays)
   where
-    stays : box (outboxes_without_carrier outboxes c) (control_slot plan) ≡ box outboxes (control_slot plan)
+    stays : box (outboxes_without_carrier outboxes c) (control_slot lists) ≡ box outboxes (control_slot lists)
     stays =
-        get_or-set_other (slice_set outboxes (2 * c) []) (2 * c + 1) (place (control_slot plan)) [] [] (λ same. absurd (omega (arith, same)))
-        ∙ get_or-set_other outboxes (2 * c) (place (control_slot plan)) [] [] (λ same. apart (omega (arith, same)))
+        get_or-set_other (slice_set outboxes (2 * c) []) (2 * c + 1) (place (control_slot lists)) [] [] (λ same. absurd (omega (arith, same)))
+        ∙ get_or-set_other outboxes (2 * c) (place (control_slot lists)) [] [] (λ same. apart (omega (arith, same)))
 
 -- an element that exists, for any default value
 read_there : {X : Type 0} (xs : List X) (i : ℕ) (x d : X) → i < length xs → x ≡ slice_index_or xs i x → x ≡ slice_index_or xs i d
@@ -376,7 +379,7 @@ within_outboxes : (outboxes : List (List Pdu)) (slot : Slot) → IsSlot slot →
 within_outboxes outboxes slot is h = omega (arith, h.size, is.0, is.1)
 
 -- the outboxes and counts after a PDU was added, by the places and the outbox that the code names
-module _ (plan : Settings) (outboxes : List (List Pdu)) (counts : List ℕ) (slot : Slot) (pdu : Pdu) (i : ℕ) (now : List Pdu) (is_plan : IsPlan plan) (is : IsSlot slot) (at : i ≡ place slot) (there : now ≡ slice_index_or outboxes i now) (kept : AreOutboxes outboxes) (counted : AreCounted plan outboxes counts) where
+module _ (lists : ListSection) (outboxes : List (List Pdu)) (counts : List ℕ) (slot : Slot) (pdu : Pdu) (i : ℕ) (now : List Pdu) (are_lists : IsListSection lists) (is : IsSlot slot) (at : i ≡ place slot) (there : now ≡ slice_index_or outboxes i now) (kept : AreOutboxes outboxes) (counted : AreCounted lists outboxes counts) where
   box_is : now ≡ box outboxes slot
   box_is =
       let within : i < length outboxes = omega (arith, within_outboxes outboxes slot is kept, at) in
@@ -388,15 +391,16 @@ module _ (plan : Settings) (outboxes : List (List Pdu)) (counts : List ℕ) (slo
   pub pushed_kept : (new : List Pdu) → new ≡ now ++ pdu ∷ [] → length (box outboxes slot) < 64 → AreOutboxes (slice_set outboxes i new)
   pushed_kept new e room = outboxes-set outboxes i new (omega (arith, ap length (e ∙ ap (λ (xs : List Pdu). xs ++ pdu ∷ []) box_is), length-append (box outboxes slot) (pdu ∷ []))) kept
 
-  pub pushed_none : (new : List Pdu) → new ≡ now ++ pdu ∷ [] → slot_counted plan slot pdu ≡ None → AreCounted plan (slice_set outboxes i new) counts
-  pushed_none new e none = subst (λ (bs : List (List Pdu)). AreCounted plan bs counts) (sym (after_push new e)) (queued_uncounted plan outboxes counts slot pdu is_plan is (within_outboxes outboxes slot is kept) none counted)
+  pub pushed_none : (new : List Pdu) → new ≡ now ++ pdu ∷ [] → slot_counted lists slot pdu ≡ None → AreCounted lists (slice_set outboxes i new) counts
+  pushed_none new e none = subst (λ (bs : List (List Pdu)). AreCounted lists bs counts) (sym (after_push new e)) (queued_uncounted lists outboxes counts slot pdu are_lists is (within_outboxes outboxes slot is kept) none counted)
 
-  pub pushed_one : (new : List Pdu) (granted : Slot) (j : ℕ) → new ≡ now ++ pdu ∷ [] → slot_counted plan slot pdu ≡ Some granted → IsSlot granted → j ≡ place granted → length counts ≡ 32
-      → AreCounted plan (slice_set outboxes i new) (slice_set counts j (slice_index_or counts j 0 + 1))
+  pub pushed_one : (new : List Pdu) (granted : Slot) (j : ℕ) → new ≡ now ++ pdu ∷ [] → slot_counted lists slot pdu ≡ Some granted → IsSlot granted → j ≡ place granted → length counts ≡ 32
+      → AreCounted lists (slice_set outboxes i new) (slice_set counts j (slice_index_or counts j 0 + 1))
   pushed_one new granted j e one is_granted there_j size =
-      subst (λ n. AreCounted plan (slice_set outboxes i new) (slice_set counts n (slice_index_or counts n 0 + 1))) (sym there_j)
-      (subst (λ (bs : List (List Pdu)). AreCounted plan bs (slice_set counts (place granted) (slice_index_or counts (place granted) 0 + 1))) (sym (after_push new e))
-      (queued_counted plan outboxes counts slot granted pdu is_plan is (within_outboxes outboxes slot is kept) one is_granted size counted))
+      subst (λ n. AreCounted lists (slice_set outboxes i new) (slice_set counts n (slice_index_or counts n 0 + 1))) (sym there_j)
+      (subst (λ (bs : List (List Pdu)). AreCounted lists bs (slice_set counts (place granted) (slice_index_or counts (place granted) 0 + 1))) (sym (after_push new e))
+      (queued_counted lists outboxes counts slot granted pdu are_lists is (within_outboxes outboxes slot is kept) one is_granted size
+      counted))
 
   after_take : (new : List Pdu) → new ≡ drop 1 now → slice_set outboxes i new ≡ outboxes_after_send outboxes slot
   after_take new e = λ k. slice_set outboxes (at k) ((e ∙ ap (drop 1) box_is) k)
@@ -404,33 +408,33 @@ module _ (plan : Settings) (outboxes : List (List Pdu)) (counts : List ℕ) (slo
   pub taken_kept : (new : List Pdu) → new ≡ drop 1 now → AreOutboxes (slice_set outboxes i new)
   taken_kept new e = outboxes-set outboxes i new (omega (arith, ap length (e ∙ ap (drop 1) box_is), length-drop 1 (box outboxes slot), few_there outboxes (place slot) kept.few)) kept
 
-  pub taken_none : (new : List Pdu) → new ≡ drop 1 now → slice_get (box outboxes slot) 0 ≡ Some pdu → slot_counted plan slot pdu ≡ None → AreCounted plan (slice_set outboxes i new) counts
+  pub taken_none : (new : List Pdu) → new ≡ drop 1 now → slice_get (box outboxes slot) 0 ≡ Some pdu → slot_counted lists slot pdu ≡ None → AreCounted lists (slice_set outboxes i new) counts
   taken_none new e first none =
-      subst (λ (bs : List (List Pdu)). AreCounted plan bs counts) (sym (after_take new e)) (sent_uncounted plan outboxes counts slot pdu is_plan is (within_outboxes outboxes slot is kept) first none counted)
+      subst (λ (bs : List (List Pdu)). AreCounted lists bs counts) (sym (after_take new e)) (sent_uncounted lists outboxes counts slot pdu are_lists is (within_outboxes outboxes slot is kept) first none counted)
 
-  pub taken_one : (new : List Pdu) (granted : Slot) (j : ℕ) → new ≡ drop 1 now → slice_get (box outboxes slot) 0 ≡ Some pdu → slot_counted plan slot pdu ≡ Some granted → IsSlot granted → j ≡ place granted → length counts ≡ 32
-      → AreCounted plan (slice_set outboxes i new) (slice_set counts j (slice_index_or counts j 0 - 1))
+  pub taken_one : (new : List Pdu) (granted : Slot) (j : ℕ) → new ≡ drop 1 now → slice_get (box outboxes slot) 0 ≡ Some pdu → slot_counted lists slot pdu ≡ Some granted → IsSlot granted → j ≡ place granted → length counts ≡ 32
+      → AreCounted lists (slice_set outboxes i new) (slice_set counts j (slice_index_or counts j 0 - 1))
   taken_one new granted j e first one is_granted there_j size =
-      subst (λ n. AreCounted plan (slice_set outboxes i new) (slice_set counts n (slice_index_or counts n 0 - 1))) (sym there_j)
-      (subst (λ (bs : List (List Pdu)). AreCounted plan bs (slice_set counts (place granted) (slice_index_or counts (place granted) 0 - 1))) (sym (after_take new e))
-      (sent_counted plan outboxes counts slot granted pdu is_plan is (within_outboxes outboxes slot is kept) first one is_granted size counted))
+      subst (λ n. AreCounted lists (slice_set outboxes i new) (slice_set counts n (slice_index_or counts n 0 - 1))) (sym there_j)
+      (subst (λ (bs : List (List Pdu)). AreCounted lists bs (slice_set counts (place granted) (slice_index_or counts (place granted) 0 - 1))) (sym (after_take new e))
+      (sent_counted lists outboxes counts slot granted pdu are_lists is (within_outboxes outboxes slot is kept) first one is_granted size counted))
 
 empty_few : (xs : List Pdu) → xs ≡ [] → length xs ≤ 64
 empty_few xs e = omega (arith, ap length e)
 
 -- the outboxes of a carrier's slots are emptied
-module _ (plan : Settings) (outboxes : List (List Pdu)) (counts : List ℕ) (i c : ℕ) (first second : List Pdu) (at : i ≡ c) (none : first ≡ []) (no_more : second ≡ []) (within : c < 16) (kept : AreOutboxes outboxes) where
+module _ (lists : ListSection) (outboxes : List (List Pdu)) (counts : List ℕ) (i c : ℕ) (first second : List Pdu) (at : i ≡ c) (none : first ≡ []) (no_more : second ≡ []) (within : c < 16) (kept : AreOutboxes outboxes) where
   emptied_as : slice_set (slice_set outboxes (2 * i) first) (2 * i + 1) second ≡ outboxes_without_carrier outboxes c
   emptied_as = λ k. slice_set (slice_set outboxes (2 * at k) (none k)) (2 * at k + 1) (no_more k)
 
   pub cleared_kept : AreOutboxes (slice_set (slice_set outboxes (2 * i) first) (2 * i + 1) second)
   cleared_kept = outboxes-set (slice_set outboxes (2 * i) first) (2 * i + 1) second (empty_few second no_more) (outboxes-set outboxes (2 * i) first (empty_few first none) kept)
 
-  pub cleared_control : c ≡ plan.control → AreCounted plan (slice_set (slice_set outboxes (2 * i) first) (2 * i + 1) second) (replicate 32 0)
-  cleared_control is = subst (λ (bs : List (List Pdu)). AreCounted plan bs (replicate 32 0)) (sym emptied_as) (emptied_control plan outboxes c is (omega (arith, kept.size)))
+  pub cleared_control : c ≡ lists.control → AreCounted lists (slice_set (slice_set outboxes (2 * i) first) (2 * i + 1) second) (replicate 32 0)
+  cleared_control is = subst (λ (bs : List (List Pdu)). AreCounted lists bs (replicate 32 0)) (sym emptied_as) (emptied_control lists outboxes c is (omega (arith, kept.size)))
 
-  pub cleared_other : c ≢ plan.control → AreCounted plan outboxes counts → AreCounted plan (slice_set (slice_set outboxes (2 * i) first) (2 * i + 1) second) counts
-  cleared_other apart counted = subst (λ (bs : List (List Pdu)). AreCounted plan bs counts) (sym emptied_as) (emptied_other plan outboxes counts c apart counted)
+  pub cleared_other : c ≢ lists.control → AreCounted lists outboxes counts → AreCounted lists (slice_set (slice_set outboxes (2 * i) first) (2 * i + 1) second) counts
+  cleared_other apart counted = subst (λ (bs : List (List Pdu)). AreCounted lists bs counts) (sym emptied_as) (emptied_other lists outboxes counts c apart counted)
 
 -- nothing changes if no PDU waits
 pub sent_nothing : (outboxes : List (List Pdu)) (slot : Slot) → slice_get (box outboxes slot) 0 ≡ None → outboxes_after_send outboxes slot ≡ outboxes
@@ -452,9 +456,10 @@ first_kept outboxes e = record {
   few = subst (All (λ (box : List Pdu). length box ≤ 64)) (sym e) (All-replicate (λ (box : List Pdu). length box ≤ 64) 32 [] (omega arith));
 }
 
-pub first_counted : (plan : Settings) (outboxes : List (List Pdu)) → outboxes ≡ replicate 32 [] → AreCounted plan outboxes (replicate 32 0)
-first_counted plan outboxes e k below =
-    zeros 32 k ∙ sym (ap (λ (xs : List Pdu). grants_in plan xs (slot_at k)) (ap (λ (bs : List (List Pdu)). box bs (control_slot plan)) e ∙ nothing_waits 32 (place (control_slot plan))) ∙ none (row_with plan.carriers ((slot_at k).carrier)))
+pub first_counted : (lists : ListSection) (outboxes : List (List Pdu)) → outboxes ≡ replicate 32 []
+    → AreCounted lists outboxes (replicate 32 0)
+first_counted lists outboxes e k below =
+    zeros 32 k ∙ sym (ap (λ (xs : List Pdu). grants_in lists xs (slot_at k)) (ap (λ (bs : List (List Pdu)). box bs (control_slot lists)) e ∙ nothing_waits 32 (place (control_slot lists))) ∙ none (row_with lists.carriers ((slot_at k).carrier)))
   where
     none : (found : Option CarrierRow) → option_map_or (λ (row : CarrierRow). count_by (names row.lpcn ((slot_at k).slot)) []) found 0 ≡ 0
     none None = refl

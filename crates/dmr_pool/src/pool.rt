@@ -26,7 +26,8 @@ pub struct Full;
 
 /// The slots of a plan's site.
 ///
-/// Contracts see the plan, the carriers that are up, the slots that calls hold, and the PDUs that wait for each slot.
+/// Contracts see the lists of the plan, the carriers that are up, the slots that calls hold, and the PDUs that wait for
+/// each slot.
 /// Their invariant is `AreSlotsOfSite`; a proof gets it from [`Pool::use_invariant`].
 #[derive(Drop)]
 pub struct Pool {
@@ -43,14 +44,14 @@ impl Model for Pool {
     ghost Value = { Slots };
 
     ghost view = { λ pool. record {
-      plan = pool.outboxes.plan;
+      lists = pool.outboxes.lists;
       up = pool.up;
       held = pool.held;
       outboxes = pool.outboxes.outboxes;
     } };
 
     ghost invariant = { λ pool. AreMarked pool.free.bits (record {
-      plan = pool.outboxes.plan;
+      lists = pool.outboxes.lists;
       up = pool.up;
       held = pool.held;
       outboxes = pool.outboxes.outboxes;
@@ -68,14 +69,14 @@ fn are_sized(up: &[bool; 16], held: &[bool; 32])
 /// Reports whether a slot is free for a call: the test that [`Pool::is_free`] describes.
 fn is_free(outboxes: &Outboxes, up: &[bool; 16], held: &[bool; 32], slot: &Slot) -> bool
     ensures { result ≡ is_free (record {
-      plan = outboxes.now.plan;
+      lists = outboxes.now.lists;
       up = up.now;
       held = held.now;
       outboxes = outboxes.now.outboxes;
     }) slot.now }
 {
     let carrier = slot.carrier.get() as usize;
-    outboxes.plan().carrier_with(slot.carrier).is_some()
+    outboxes.lists().carrier_with(slot.carrier).is_some()
         && up[carrier]
         && !outboxes.is_control(slot)
         && !held[slot.index()]
@@ -86,7 +87,7 @@ fn is_free(outboxes: &Outboxes, up: &[bool; 16], held: &[bool; 32], slot: &Slot)
 /// The set of the free slots.
 fn all_free(outboxes: &Outboxes, up: &[bool; 16], held: &[bool; 32]) -> Marks
     ensures { AreMarked result.bits (record {
-      plan = outboxes.now.plan;
+      lists = outboxes.now.lists;
       up = up.now;
       held = held.now;
       outboxes = outboxes.now.outboxes;
@@ -105,7 +106,7 @@ impl Pool {
     ///
     /// Returns `OutOfMemory` if the allocation fails.
     pub fn new(alloc: Global, plan: &Plan) -> Result<Pool, OutOfMemory>
-        ensures { IfOk result (λ pool. pool ≡ nothing_on plan.now) }
+        ensures { IfOk result (λ pool. pool ≡ nothing_on plan.now.lists) }
     {
         Ok(Pool {
             up: [false; 16],
@@ -144,7 +145,7 @@ impl Pool {
 
     /// Marks a carrier of the plan as up. Its slots are released, and its outboxes emptied.
     pub fn up(&mut self, carrier: CarrierNo)
-        requires { IsTrue (has_number_in self.old.plan.carriers carrier) }
+        requires { IsTrue (has_number_in self.old.lists.carriers carrier) }
         ensures { self.new ≡ record self.old {
           up = slice_set self.old.up carrier true;
           held = held_without_carrier self.old.held carrier;
@@ -213,14 +214,14 @@ impl Pool {
 
     /// Slot 0 of the control carrier.
     pub fn control_slot(&self) -> Slot
-        ensures { result ≡ control_slot self.now.plan }
+        ensures { result ≡ control_slot self.now.lists }
     {
         self.outboxes.control_slot()
     }
 
     /// Reports whether a slot is the control slot.
     pub fn is_control(&self, slot: Slot) -> bool
-        ensures { result ≡ is_control self.now.plan slot }
+        ensures { result ≡ is_control self.now.lists slot }
     {
         self.outboxes.is_control(&slot)
     }
@@ -316,17 +317,17 @@ impl Pool {
         self.outboxes.waiting(&slot)
     }
 
-    /// Reports whether two pools have the same plan, carriers up, held slots and waiting PDUs.
+    /// Reports whether two pools have the same lists, carriers up, held slots and waiting PDUs.
     fn equals(&self, other: &Pool) -> bool
         ensures { result ≡ are_same self.now other.now }
     {
-        self.outboxes.plan() == other.outboxes.plan()
+        self.outboxes.lists() == other.outboxes.lists()
             && self.up == other.up
             && self.held == other.held
             && self.outboxes.has_same_pdus(&other.outboxes)
     }
 
-    /// Reports whether the same carriers are up and the same PDUs wait for each slot. Plans and held slots are
+    /// Reports whether the same carriers are up and the same PDUs wait for each slot. Lists and held slots are
     /// not compared.
     pub fn has_same_carriers_and_pdus(&self, other: &Pool) -> bool
         ensures { result ≡ are_alike self.now other.now }
@@ -343,8 +344,8 @@ impl Pool {
     }
 }
 
-/// Two pools are equal if they have the same plan, the same carriers up, the same slots held, and the same PDUs waiting
-/// for each slot in the same order.
+/// Two pools are equal if they have the same lists of a plan, the same carriers up, the same slots held, and the same
+/// PDUs waiting for each slot in the same order.
 impl PartialEq for Pool {
     ghost use Rattle.std.specs.Cmp.{partial_equiv_from_equiv};
     ghost use Rattle.dmr_pool.specs.Same.{are_same, are_same-equivalence};

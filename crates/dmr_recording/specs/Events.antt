@@ -23,7 +23,7 @@ use Rattle.dmr_recording.specs.Commands.{command_text}
 -- a carrier's channel in the plan
 abbrev pub lpcn_of : Settings → ℕ → ℕ
 lpcn_of plan carrier =
-    option_map_or (λ (row : CarrierRow). row.lpcn) (row_with plan.carriers carrier) 0
+    option_map_or (λ (row : CarrierRow). row.lpcn) (row_with plan.lists.carriers carrier) 0
 
 -- the HELLO of a carrier of the plan, in version 1
 abbrev pub hello_of : Settings → ℕ → FrameIn

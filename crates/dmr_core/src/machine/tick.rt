@@ -29,8 +29,8 @@ impl Machine {
 
     /// The call, ask and line that are due by the plan's times.
     fn due(&self) -> Due
-        ensures { result ≡ due_of (active_lists self.now.facts) self.now.plan.hang
-            self.now.plan.maximum self.now.plan.ahoy_wait }
+        ensures { result ≡ due_of (active_lists self.now.facts) self.now.plan.calls.hang
+            self.now.plan.calls.maximum self.now.plan.calls.ahoy_wait }
     {
         let plan = &self.plan;
         self.calls

@@ -14,4 +14,5 @@ invariant_of-self c =
       rw now are,
       c.self.invariant.2,
       omega (arith, c.self.invariant.3, c.count_noise.ensures.more, ap (λ (xs : List ℕ). sum xs) now),
+      c.self.invariant.4,
     )

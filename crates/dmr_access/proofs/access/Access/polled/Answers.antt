@@ -12,4 +12,5 @@ invariant_of-self c =
       rw now are,
       c.self.invariant.2,
       omega (arith, c.self.invariant.3, c.begin_number.ensures.fewer, ap (λ (xs : List ℕ). sum xs) now),
+      c.self.invariant.4,
     )

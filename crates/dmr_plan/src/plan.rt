@@ -17,11 +17,11 @@ use std::alloc::Global;
 use std::marker::Model;
 
 /// The contents of an accepted site file. A `Plan` is `Copy` and has no memory of its own. In contracts it is the
-/// settings, a section for each group of keys, beside which its getters stand. Every plan satisfies `IsPlan`;
-/// [`Plan::use_invariant`] is the law for it.
+/// settings, a section for each group of keys. Every plan satisfies `IsPlan`; [`Plan::use_invariant`] is the law for
+/// it.
 #[derive(Clone, Copy, Debug)]
 pub struct Plan {
-    // The getters, beside their sections, read it.
+    // The module `sections` has the getters.
     pub(crate) settings: Settings,
 }
 

@@ -344,8 +344,7 @@ impl Pool {
     }
 }
 
-/// Two pools are equal if they have the same lists of a plan, the same carriers up, the same slots held, and the same
-/// PDUs waiting for each slot in the same order.
+/// Two pools are equal if they have the same lists of a plan, carriers up, held slots, and waiting PDUs in the same order.
 impl PartialEq for Pool {
     ghost use Rattle.std.specs.Cmp.{partial_equiv_from_equiv};
     ghost use Rattle.dmr_pool.specs.Same.{are_same, are_same-equivalence};

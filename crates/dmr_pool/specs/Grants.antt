@@ -1,6 +1,6 @@
 -- The numbers of waiting grants of each slot: an invariant of the pool. No crate above uses these definitions.
 use Rattle.std.specs.Prelude.{◌≡◌, ℕ, ◌<◌, ◌≤◌, List, length, ◌==◌, if◌then◌else◌, Option, None}
-use Rattle.std.specs.Prelude.{option_map, slice_index_or}
+use Rattle.std.specs.Prelude.{Bool, option_map, slice_index_or}
 use Rattle.std.specs.List.{All, count_by, find}
 use Rattle.std.specs.Option.{option_map_or}
 use Rattle.dmr_pdu.specs.declared.slots.Slot.{Slot}
@@ -11,13 +11,18 @@ use Rattle.dmr_plan.specs.declared.carriers.CarrierRow.{CarrierRow}
 use Rattle.dmr_plan.specs.Carriers.{row_with}
 use Rattle.dmr_pdu.specs.Slots.{slots_of_site}
 use Rattle.dmr_pool.specs.Limits.{most_pdus_of_a_slot}
-use Rattle.dmr_pool.specs.Slots.{box, slot_at}
+use Rattle.dmr_pool.specs.Slots.{Slots, box, slot_at}
 use Rattle.dmr_pool.specs.Free.{control_slot, is_control, names}
 
 -- the lists of the plan, and the PDUs that wait for each slot, at its place, oldest first
 pub record WaitingPdus : Type 0 where
   pub lists : ListSection
   pub outboxes : List (List Pdu)
+
+-- the slots of a site with these waiting PDUs, carriers up and held slots
+abbrev pub slots_with : WaitingPdus → List Bool → List Bool → Slots
+slots_with waiting up held =
+    record { lists = waiting.lists; up = up; held = held; outboxes = waiting.outboxes }
 
 -- the number of grants of a slot that wait for the control slot
 abbrev pub grants_of : ListSection → List (List Pdu) → Slot → ℕ

@@ -8,6 +8,7 @@ ghost use Rattle.dmr_pool.specs.Slots.{box, is_up, outboxes_without_carrier, hel
 ghost use Rattle.dmr_pool.specs.Slots.{outboxes_with_pdu, outboxes_after_send, place, nothing_on};
 ghost use Rattle.dmr_pool.specs.Free.{control_slot, is_control, is_free, lowest_free};
 ghost use Rattle.dmr_pool.specs.Free.{HasNoFreeSlot, IsLowestFree};
+ghost use Rattle.dmr_pool.specs.Grants.{slots_with};
 ghost use Rattle.dmr_pool.specs.Marks.{AreMarked};
 ghost use Rattle.dmr_pool.specs.Kept.{AreSlotsOfSite};
 ghost use Rattle.dmr_pool.specs.Same.{are_alike, are_same};
@@ -39,23 +40,15 @@ pub struct Pool {
 
 impl Model for Pool {
     ghost use Rattle.dmr_pool.specs.Slots.{Slots};
+    ghost use Rattle.dmr_pool.specs.Grants.{slots_with};
     ghost use Rattle.dmr_pool.specs.Marks.{AreMarked};
 
     ghost Value = { Slots };
 
-    ghost view = { λ pool. record {
-      lists = pool.outboxes.lists;
-      up = pool.up;
-      held = pool.held;
-      outboxes = pool.outboxes.outboxes;
-    } };
+    ghost view = { λ pool. slots_with pool.outboxes pool.up pool.held };
 
-    ghost invariant = { λ pool. AreMarked pool.free.bits (record {
-      lists = pool.outboxes.lists;
-      up = pool.up;
-      held = pool.held;
-      outboxes = pool.outboxes.outboxes;
-    }) };
+    ghost invariant = { λ pool. AreMarked pool.free.bits
+        (slots_with pool.outboxes pool.up pool.held) };
 }
 
 /// Does nothing. A proof calls it to use the numbers of carriers and slots.
@@ -68,12 +61,7 @@ fn are_sized(up: &[bool; 16], held: &[bool; 32])
 
 /// Reports whether a slot is free for a call: the test that [`Pool::is_free`] describes.
 fn is_free(outboxes: &Outboxes, up: &[bool; 16], held: &[bool; 32], slot: &Slot) -> bool
-    ensures { result ≡ is_free (record {
-      lists = outboxes.now.lists;
-      up = up.now;
-      held = held.now;
-      outboxes = outboxes.now.outboxes;
-    }) slot.now }
+    ensures { result ≡ is_free (slots_with outboxes.now up.now held.now) slot.now }
 {
     let carrier = slot.carrier.get() as usize;
     outboxes.lists().carrier_with(slot.carrier).is_some()
@@ -86,12 +74,7 @@ fn is_free(outboxes: &Outboxes, up: &[bool; 16], held: &[bool; 32], slot: &Slot)
 
 /// The set of the free slots.
 fn all_free(outboxes: &Outboxes, up: &[bool; 16], held: &[bool; 32]) -> Marks
-    ensures { AreMarked result.bits (record {
-      lists = outboxes.now.lists;
-      up = up.now;
-      held = held.now;
-      outboxes = outboxes.now.outboxes;
-    }) }
+    ensures { AreMarked result.bits (slots_with outboxes.now up.now held.now) }
 {
     let mut free = Marks::none();
     for place in 0..32usize {

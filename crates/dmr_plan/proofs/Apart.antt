@@ -12,14 +12,16 @@ other_way : (m n : ℕ) → (m == n) ≡ false → (n == m) ≡ false
 other_way m n h = ne_eqb n m (λ e. eqb-false m n h (sym e))
 
 -- no element has the number, and the new one does not either
-any-push : {A : Type 0} (f : A → ℕ) (n : ℕ) (xs : List A) (x : A) → list_any (λ m. m == n) (map f xs) ≡ false → (f x == n) ≡ false → list_any (λ m. m == n) (map f (xs ++ x ∷ [])) ≡ false
+any-push : {A : Type 0} (f : A → ℕ) (n : ℕ) (xs : List A) (x : A) → list_any (λ m. m == n) (map f xs) ≡ false → (f x == n) ≡ false
+    → list_any (λ m. m == n) (map f (xs ++ x ∷ [])) ≡ false
 any-push f n [] x h e = or_from _ _ e refl
 any-push f n (y ∷ ys) x h e =
     let p = or_parts _ _ h in
     or_from _ _ p.0 (any-push f n ys x p.1 e)
 
 -- no number is there twice, and the number of the new element is new
-pub has_repeat-push : {A : Type 0} (f : A → ℕ) (xs : List A) (x : A) → has_repeat (map f xs) ≡ false → list_any (λ y. f y == f x) xs ≡ false → has_repeat (map f (xs ++ x ∷ [])) ≡ false
+pub has_repeat-push : {A : Type 0} (f : A → ℕ) (xs : List A) (x : A) → has_repeat (map f xs) ≡ false
+    → list_any (λ y. f y == f x) xs ≡ false → has_repeat (map f (xs ++ x ∷ [])) ≡ false
 has_repeat-push f [] x h e = refl
 has_repeat-push f (y ∷ ys) x h e =
     let p = or_parts _ _ h in
@@ -27,7 +29,8 @@ has_repeat-push f (y ∷ ys) x h e =
     or_from _ _ (any-push f (f y) ys x p.0 (other_way (f y) (f x) q.0)) (has_repeat-push f ys x p.1 q.1)
 
 -- no carrier has the port, and the new one does not either
-port-push : (n : ℕ) (rows : List CarrierRow) (row : CarrierRow) → has_port_in rows n ≡ false → (row.port == n) ≡ false → has_port_in (rows ++ row ∷ []) n ≡ false
+port-push : (n : ℕ) (rows : List CarrierRow) (row : CarrierRow) → has_port_in rows n ≡ false → (row.port == n) ≡ false
+    → has_port_in (rows ++ row ∷ []) n ≡ false
 port-push n [] row h e = or_from _ _ e refl
 port-push n (y ∷ ys) row h e =
     let p = or_parts _ _ h in

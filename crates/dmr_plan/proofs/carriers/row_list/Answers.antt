@@ -16,5 +16,6 @@ loop-value-preserved c =
       count = omega (arith, simp length-append at (ap length more), old.count);
       each = rw more (All-push IsCarrierRow _ row old.each new.limits);
       apart = AreApart-grown c.args.console_port _ _ _ row c.as_slice.ensures.value more old.apart new;
-      same = in_turn-step (carrier_of_item c.args.console_port) _ _ _ row _ _ _ _ c.as_slice.ensures.value more c.loop-value-test.true c.value-item.is c.in_ok-row.ensures.gives old.same;
+      same = in_turn-step (carrier_of_item c.args.console_port) _ _ _ row _ _ _ _ c.as_slice.ensures.value more c.loop-value-test.true
+          c.value-item.is c.in_ok-row.ensures.gives old.same;
     }

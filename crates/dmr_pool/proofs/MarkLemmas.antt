@@ -1,7 +1,7 @@
 -- The bits remain those of the free slots.
-use Rattle.std.proofs.Common.{arith, ◌≡◌, ◌≢◌, ℕ, zero, suc, ◌+◌, ◌<◌, ◌≤◌, ◌⊎◌, inl, inr, Bool, true, false, refl, sym, ap, ◌∙◌, subst}
+use Rattle.std.proofs.Common.{arith, ◌≡◌, ◌≢◌, ℕ, ◌+◌, ◌<◌, ◌≤◌, ◌⊎◌, inl, inr, Bool, true, false, refl, sym, ap, ◌∙◌, subst}
 use Rattle.std.proofs.Common.{List, [], ◌∷◌, ◌++◌, replicate, length, slice_set, eqb-true}
-use Rattle.std.specs.Prelude.{not, cond, ◌&&◌, ◌==◌, nat_lt, slice_get, Option, Some, None, MatchOption, slice_index_or}
+use Rattle.std.specs.Prelude.{not, cond, ◌&&◌, ◌==◌, nat_lt, slice_get, Option, Some, None, MatchOption}
 use Rattle.std.proofs.lemmas.Bool.{cases_lt, eqb-false, ne_eqb}
 use Rattle.std.proofs.lemmas.Bool.Decides.{nat_tests}
 use Rattle.std.proofs.lemmas.List.{get_or-set_same, get_or-set_other}
@@ -13,10 +13,10 @@ use Rattle.dmr_plan.specs.Sections.{IsListSection}
 use Rattle.dmr_pool.specs.Slots.{Slots, IsSlot, place, slot_at, box, is_up, is_slot_held, outboxes_with_pdu, outboxes_after_send}
 use Rattle.dmr_pool.specs.Free.{is_control, is_empty, is_free, is_free_by, is_granted, HasNoFreeSlot, IsLowestFree}
 use Rattle.dmr_pool.specs.Marks.{AreMarked, HasNoBit, IsLowestBit, IsSet, has_bit}
-use Rattle.dmr_pool.specs.Grants.{AreOutboxes, grants_of, slot_counted}
+use Rattle.dmr_pool.specs.Grants.{AreOutboxes, grants_of, is_this, slot_counted}
 use Rattle.dmr_pool.proofs.BitLemmas.{place-slot_at}
 use Rattle.dmr_pool.proofs.FreeLemmas.{slot_at-place}
-use Rattle.dmr_pool.proofs.GrantLemmas.{granted_count, grants_queued, grants_sent, is_this, this_at, this_itself}
+use Rattle.dmr_pool.proofs.GrantLemmas.{granted_count, grants_queued, grants_sent, same_anywhere, this_at, this_itself}
 
 -- the slot of the lowest bit is the lowest that is free
 pub marked_lowest : (bits : ℕ) (slots : Slots) (found : Option Slot) → AreMarked bits slots
@@ -119,15 +119,10 @@ pub held_elsewhere : (held : List Bool) (slot : Slot) (b : Bool) (k : ℕ) → k
 held_elsewhere held slot b k apart = sym (get_or-set_other held (place slot) (place (slot_at k)) b false (λ e. apart (omega (arith, e))))
 
 -- no carrier is up at first
-down : (n c : ℕ) → slice_index_or (replicate n false) c false ≡ false
-down zero c = refl
-down (suc n) zero = refl
-down (suc n) (suc c) = down n c
-
 pub none_free : (bits : ℕ) (lists : ListSection) (held : List Bool) (outboxes : List (List Pdu)) → HasNoBit bits
     → AreMarked bits (record { lists = lists; up = replicate 16 false; held = held; outboxes = outboxes })
 none_free bits lists held outboxes none k below = none k below
-    ∙ sym (down_not_free lists (replicate 16 false) outboxes (is_slot_held held) (slot_at k) (down 16 ((slot_at k).carrier)))
+    ∙ sym (down_not_free lists (replicate 16 false) outboxes (is_slot_held held) (slot_at k) (same_anywhere false 16 ((slot_at k).carrier)))
 
 -- the bit of one more place is right
 pub one_more : (before after : ℕ) (slots : Slots) (slot : Slot) (b : Bool) (n : ℕ) → slot ≡ slot_at n → n < 32
@@ -192,7 +187,7 @@ module _ (lists : ListSection) (up held : List Bool) (old : List (List Pdu)) (sl
       free_as_before lists up old (outboxes_with_pdu old slot pdu) (is_slot_held held) (is_slot_held held) (slot_at k) refl
       (elsewhere k _ apart)
       (granted_same lists old (outboxes_with_pdu old slot pdu) (slot_at k)
-      (sym (grants_queued lists old slot (slot_at k) pdu are_lists is within
+      (sym (grants_queued lists are_lists old slot pdu is within (slot_at k)
       ∙ ap (λ b. grants_of lists old (slot_at k) + cond b 1 0) none ∙ omega arith)))
 
   sent_same : (k : ℕ) → k ≢ place slot → slice_get (box old slot) 0 ≡ Some pdu → is_this (slot_counted lists slot pdu) (slot_at k) ≡ false
@@ -201,7 +196,7 @@ module _ (lists : ListSection) (up held : List Bool) (old : List (List Pdu)) (sl
       free_as_before lists up old (outboxes_after_send old slot) (is_slot_held held) (is_slot_held held) (slot_at k) refl
       (elsewhere k _ apart)
       (granted_same lists old (outboxes_after_send old slot) (slot_at k)
-      (grants_sent lists old slot (slot_at k) pdu are_lists is within first
+      (grants_sent lists are_lists old slot pdu is within first (slot_at k)
       ∙ ap (λ b. grants_of lists (outboxes_after_send old slot) (slot_at k) + cond b 1 0) none ∙ omega arith))
 
   other_this : (granted : Slot) (k : ℕ) → slot_counted lists slot pdu ≡ Some granted → IsSlot granted → k ≢ place granted
@@ -220,7 +215,7 @@ module _ (lists : ListSection) (up held : List Bool) (old : List (List Pdu)) (sl
       → false ≡ is_free (stands (outboxes_with_pdu old slot pdu)) granted
   granted_now granted one =
       let more : grants_of lists (outboxes_with_pdu old slot pdu) granted ≡ grants_of lists old granted + 1 =
-      grants_queued lists old slot granted pdu are_lists is within
+      grants_queued lists are_lists old slot pdu is within granted
       ∙ ap (λ (t : Option Slot). grants_of lists old granted + cond (is_this t granted) 1 0) one
       ∙ ap (λ b. grants_of lists old granted + cond b 1 0) (this_itself granted) in
       sym (granted_not_free lists up (outboxes_with_pdu old slot pdu) (is_slot_held held) granted

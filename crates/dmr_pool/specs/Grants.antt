@@ -1,6 +1,6 @@
 -- The numbers of waiting grants of each slot: an invariant of the pool. No crate above uses these definitions.
-use Rattle.std.specs.Prelude.{◌≡◌, ℕ, ◌<◌, ◌≤◌, List, length, ◌==◌, if◌then◌else◌, Option, None}
-use Rattle.std.specs.Prelude.{Bool, option_map, slice_index_or}
+use Rattle.std.specs.Prelude.{◌≡◌, ℕ, ◌+◌, ◌<◌, ◌≤◌, List, length, ◌==◌, ◌&&◌, Bool, false}
+use Rattle.std.specs.Prelude.{if◌then◌else◌, Option, Some, None, option_map, slice_index_or}
 use Rattle.std.specs.List.{All, count_by, find}
 use Rattle.std.specs.Option.{option_map_or}
 use Rattle.dmr_pdu.specs.declared.slots.Slot.{Slot}
@@ -35,6 +35,17 @@ grants_of lists outboxes slot =
 pub record AreOutboxes (outboxes : List (List Pdu)) : Type 0 where
   pub size : length outboxes ≡ slots_of_site
   pub few : All (λ box. length box ≤ most_pdus_of_a_slot) outboxes
+
+-- the slot is this one, if there is one
+abbrev pub is_this : Option Slot → Slot → Bool
+is_this None slot = false
+is_this (Some s) slot = (s.carrier == slot.carrier) && (s.slot == slot.slot)
+
+-- the counts are these with one more for this slot, if there is one
+abbrev pub IsOneMore : List ℕ → Option Slot → List ℕ → Type 0
+IsOneMore fewer granted more =
+    (place : ℕ) → place < slots_of_site → slice_index_or more place 0
+    ≡ slice_index_or fewer place 0 + (if is_this granted (slot_at place) then 1 else 0)
 
 -- each count is that of the slot at its place
 abbrev pub AreCounted : ListSection → List (List Pdu) → List ℕ → Type 0

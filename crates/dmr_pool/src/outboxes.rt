@@ -1,13 +1,16 @@
 //! The outboxes of all slots of a site, and the numbers of waiting grants of each slot.
 
-ghost use Rattle.std.specs.Prelude.{◌≡◌, ◌<◌, [], ◌≤◌, length, replicate, slice_get, IfOk};
+ghost use Rattle.std.specs.Prelude.{◌≡◌, ◌<◌, [], ◌≤◌, ℕ, true, length, replicate, slice_get};
+ghost use Rattle.std.specs.Prelude.{slice_index_or, IfOk};
 ghost use Rattle.std.specs.Cmp.Lexicographic.{pointwise};
 ghost use Rattle.dmr_plan.specs.Sections.{IsListSection};
 ghost use Rattle.dmr_pool.specs.declared.outbox.TheConstants.{MOST_PDUS_OF_A_SLOT};
 ghost use Rattle.dmr_pool.specs.Slots.{box, outboxes_without_carrier, outboxes_with_pdu};
-ghost use Rattle.dmr_pool.specs.Slots.{outboxes_after_send};
+ghost use Rattle.dmr_pool.specs.Slots.{outboxes_after_send, slot_at};
 ghost use Rattle.dmr_pool.specs.Free.{control_slot, is_control, is_granted};
-ghost use Rattle.dmr_pool.specs.Grants.{AreOutboxes, slot_counted, slot_granted, slot_on_channel};
+ghost use Rattle.dmr_pool.specs.Grants.{AreOutboxes, IsOneMore, is_this, slot_counted};
+ghost use Rattle.dmr_pool.specs.Grants.{slot_granted, slot_on_channel};
+ghost use Rattle.dmr_pdu.specs.Slots.{slots_of_site};
 ghost use Rattle.dmr_pool.specs.Same.{are_same_pdus};
 
 use crate::outbox::Outbox;
@@ -61,6 +64,27 @@ fn copied_outboxes(alloc: Global, outboxes: &[Outbox]) -> Result<Vec<Outbox>, Ou
         copies.push(outbox.try_clone(alloc)?)?;
     }
     Ok(copies)
+}
+
+/// Counts one more grant of a slot, if there is one.
+fn count_grant(grants: &mut [u8; 32], granted: Option<Slot>)
+    requires { (place : ℕ) → place < slots_of_site → slice_index_or grants.old place 0 < 255 }
+    ensures { IsOneMore grants.old granted grants.new }
+{
+    if let Some(slot) = granted {
+        grants[slot.index()] += 1;
+    }
+}
+
+/// Counts one grant less of a slot, if there is one.
+fn uncount_grant(grants: &mut [u8; 32], granted: Option<Slot>)
+    requires { (place : ℕ) → place < slots_of_site → is_this granted (slot_at place) ≡ true
+        → 1 ≤ slice_index_or grants.old place 0 }
+    ensures { IsOneMore grants.new granted grants.old }
+{
+    if let Some(slot) = granted {
+        grants[slot.index()] -= 1;
+    }
 }
 
 impl Outboxes {
@@ -158,9 +182,7 @@ impl Outboxes {
     {
         let granted = self.slot_counted(slot, pdu);
         self.outboxes[slot.index()].push(*pdu);
-        if let Some(granted) = granted {
-            self.grants[granted.index()] += 1;
-        }
+        count_grant(&mut self.grants, granted);
     }
 
     /// Removes the PDU that has waited longest for a slot, which must be `pdu`.
@@ -173,9 +195,7 @@ impl Outboxes {
     {
         let granted = self.slot_counted(slot, pdu);
         self.outboxes[slot.index()].take();
-        if let Some(granted) = granted {
-            self.grants[granted.index()] -= 1;
-        }
+        uncount_grant(&mut self.grants, granted);
     }
 
     /// Removes all PDUs that wait for the slots of a carrier.

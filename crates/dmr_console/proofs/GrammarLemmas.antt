@@ -5,7 +5,7 @@ use Rattle.dmr_core.specs.declared.command.Argument.{Argument}
 use Rattle.dmr_core.specs.declared.command.Command.{Command}
 use Rattle.dmr_core.specs.CommandWords.{range_of}
 use Rattle.dmr_console.specs.Commands.{number_as, numbers_in}
-use Rattle.dmr_console.specs.Grammar.{alone, of_number, of_numbers, with_number, with_numbers}
+use Rattle.dmr_console.specs.Grammar.{alone, with_number, with_numbers}
 
 -- the command of these numbers, if there are
 abbrev made : (ℕ → ℕ → Command) → Option (List ℕ) → Option Command
@@ -28,7 +28,7 @@ pub one_number : (a : Argument) (command : ℕ → ℕ → Command) (words : Lis
 one_number a command [] = refl
 one_number a command (word ∷ []) = by (number_as a word)
   where
-    by : (n : Option ℕ) → made command (onto n (Some [])) ≡ of_number (λ n. command n 0) n
+    by : (n : Option ℕ) → made command (onto n (Some [])) ≡ option_map (λ k. command k 0) n
     by None = refl
     by (Some n) = refl
 one_number a command (word ∷ other ∷ words) = ap (made command) (nothing_after (number_as a word))
@@ -39,7 +39,7 @@ two_numbers a b command [] = refl
 two_numbers a b command (word ∷ []) = ap (made command) (nothing_after (number_as a word))
 two_numbers a b command (first ∷ second ∷ []) = by (number_as a first) (number_as b second)
   where
-    by : (m n : Option ℕ) → made command (onto m (onto n (Some []))) ≡ of_numbers command m n
+    by : (m n : Option ℕ) → made command (onto m (onto n (Some []))) ≡ option_and_then (λ k. option_map (command k) n) m
     by None None = refl
     by None (Some n) = refl
     by (Some m) None = refl

@@ -1,7 +1,7 @@
 //! Reads a line as a command, by the table of commands.
 
-ghost use Rattle.std.specs.Prelude.{◌≡◌, ◌∷◌, [], IfSome};
-ghost use Rattle.dmr_core.specs.CommandWords.{IsNumberOf, command_row};
+ghost use Rattle.std.specs.Prelude.{◌≡◌, IfSome};
+ghost use Rattle.dmr_core.specs.CommandWords.{IsNumberOf};
 ghost use Rattle.dmr_console.specs.Words.{words_of_line};
 ghost use Rattle.dmr_console.specs.Commands.{command_by, command_of, command_of_kind, number_as};
 
@@ -32,55 +32,32 @@ fn command_of_kind(kind: CommandKind, line: &[u8]) -> Option<Command>
     ensures { result ≡ command_of_kind (words_of_line line.now) kind }
 {
     match kind.row().arguments {
-        [] => command_alone(kind, line),
-        [argument] => command_with(kind, argument, line),
-        [first, second] => command_with_both(kind, first, second, line),
+        [] => {
+            if first_word(line).is_some() {
+                return None;
+            }
+            Some(Command::from_numbers(kind, 0, 0))
+        }
+        [argument] => {
+            let (word, rest) = first_word(line)?;
+            let number = number_as(argument, word)?;
+            if first_word(rest).is_some() {
+                return None;
+            }
+            Some(Command::from_numbers(kind, number, 0))
+        }
+        [first, second] => {
+            let (word, rest) = first_word(line)?;
+            let number = number_as(first, word)?;
+            let (word, rest) = first_word(rest)?;
+            let other = number_as(second, word)?;
+            if first_word(rest).is_some() {
+                return None;
+            }
+            Some(Command::from_numbers(kind, number, other))
+        }
         _ => None,
     }
-}
-
-/// The command of a kind without arguments. `None` if words follow its name.
-fn command_alone(kind: CommandKind, line: &[u8]) -> Option<Command>
-    requires { (command_row kind).arguments ≡ [] }
-    ensures { result ≡ command_of_kind (words_of_line line.now) kind }
-{
-    if first_word(line).is_some() {
-        return None;
-    }
-    Some(Command::from_numbers(kind, 0, 0))
-}
-
-/// The command of a kind with this argument.
-fn command_with(kind: CommandKind, argument: &Argument, line: &[u8]) -> Option<Command>
-    requires { (command_row kind).arguments ≡ argument.now ∷ [] }
-    ensures { result ≡ command_of_kind (words_of_line line.now) kind }
-{
-    let (word, rest) = first_word(line)?;
-    let number = number_as(argument, word)?;
-    if first_word(rest).is_some() {
-        return None;
-    }
-    Some(Command::from_numbers(kind, number, 0))
-}
-
-/// The command of a kind with these two arguments.
-fn command_with_both(
-    kind: CommandKind,
-    first: &Argument,
-    second: &Argument,
-    line: &[u8],
-) -> Option<Command>
-    requires { (command_row kind).arguments ≡ first.now ∷ second.now ∷ [] }
-    ensures { result ≡ command_of_kind (words_of_line line.now) kind }
-{
-    let (word, rest) = first_word(line)?;
-    let number = number_as(first, word)?;
-    let (word, rest) = first_word(rest)?;
-    let other = number_as(second, word)?;
-    if first_word(rest).is_some() {
-        return None;
-    }
-    Some(Command::from_numbers(kind, number, other))
 }
 
 /// The number of a word, if it is in the range of an argument.

@@ -55,27 +55,23 @@ kinds =
     kind.Status ∷ kind.Radios ∷ kind.Calls ∷ kind.Lines ∷ kind.Slots ∷ kind.Drop ∷ kind.End
     ∷ kind.Move ∷ kind.Stay ∷ []
 
--- the kind of a command
-abbrev pub kind_of : Command → CommandKind
-kind_of command.Status = kind.Status
-kind_of (command.Radios radio) = kind.Radios
-kind_of (command.Calls carrier) = kind.Calls
-kind_of (command.Lines place) = kind.Lines
-kind_of command.Slots = kind.Slots
-kind_of (command.Drop radio) = kind.Drop
-kind_of (command.End carrier slot) = kind.End
-kind_of (command.Move channel) = kind.Move
-kind_of command.Stay = kind.Stay
+-- the kind of a command, and its numbers in the order of its words
+abbrev pub parts_of : Command → CommandKind × List ℕ
+parts_of command.Status = (kind.Status, [])
+parts_of (command.Radios radio) = (kind.Radios, radio ∷ [])
+parts_of (command.Calls carrier) = (kind.Calls, carrier ∷ [])
+parts_of (command.Lines place) = (kind.Lines, place ∷ [])
+parts_of command.Slots = (kind.Slots, [])
+parts_of (command.Drop radio) = (kind.Drop, radio ∷ [])
+parts_of (command.End carrier slot) = (kind.End, carrier ∷ slot ∷ [])
+parts_of (command.Move channel) = (kind.Move, channel ∷ [])
+parts_of command.Stay = (kind.Stay, [])
 
--- the numbers of a command, in the order of its words
+abbrev pub kind_of : Command → CommandKind
+kind_of c = (parts_of c).0
+
 abbrev pub numbers_of : Command → List ℕ
-numbers_of (command.Radios radio) = radio ∷ []
-numbers_of (command.Calls carrier) = carrier ∷ []
-numbers_of (command.Lines place) = place ∷ []
-numbers_of (command.Drop radio) = radio ∷ []
-numbers_of (command.End carrier slot) = carrier ∷ slot ∷ []
-numbers_of (command.Move channel) = channel ∷ []
-numbers_of other = []
+numbers_of c = (parts_of c).1
 
 -- the command of a kind and of its first and second number, if it has them
 abbrev pub command_from : CommandKind → ℕ → ℕ → Command

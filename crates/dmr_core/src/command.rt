@@ -7,7 +7,7 @@ ghost use Rattle.std.specs.Str.{bytes_eq};
 ghost use Rattle.dmr_calls.specs.declared.calls.TheConstants.{MOST_LINES};
 ghost use Rattle.dmr_core.specs.CommandWords.{AreNumbersOf, IsSaid, command_from, command_row};
 ghost use Rattle.dmr_core.specs.CommandWords.{kind_named, kind_of, number_text, numbers_of};
-ghost use Rattle.dmr_core.specs.CommandWords.{range_of};
+ghost use Rattle.dmr_core.specs.CommandWords.{range_of, row_of};
 
 use arrayvec::ArrayVec;
 use dmr_calls::MOST_LINES;
@@ -218,37 +218,33 @@ impl Argument {
 }
 
 impl Command {
-    /// Returns the kind of the command.
-    pub fn kind(&self) -> CommandKind
-        ensures { result ≡ kind_of self.now }
-    {
-        match self {
-            Command::Status => CommandKind::Status,
-            Command::Radios(_) => CommandKind::Radios,
-            Command::Calls(_) => CommandKind::Calls,
-            Command::Lines(_) => CommandKind::Lines,
-            Command::Slots => CommandKind::Slots,
-            Command::Drop(_) => CommandKind::Drop,
-            Command::End(_, _) => CommandKind::End,
-            Command::Move(_) => CommandKind::Move,
-            Command::Stay => CommandKind::Stay,
-        }
-    }
-
-    /// Returns the numbers of the command, in the order of its words. A line can mean every command but `drop 0`.
-    pub fn numbers(&self) -> ArrayVec<u32, MOST_NUMBERS>
-        ensures numbers { result.items ≡ numbers_of self.now }
+    /// Returns the kind of the command, and its numbers in the order of its words. A line can mean every command but
+    /// `drop 0`.
+    pub fn parts(&self) -> (CommandKind, ArrayVec<u32, MOST_NUMBERS>)
+        ensures kind { result.0 ≡ kind_of self.now }
+        ensures numbers { result.1.items ≡ numbers_of self.now }
         ensures said { self.now ≢ Command.Drop 0 → IsSaid self.now }
     {
         match self {
-            Command::Status | Command::Slots | Command::Stay => ArrayVec::new(),
-            Command::Radios(radio) => one_number(radio.get()),
-            Command::Calls(carrier) => one_number(carrier.get()),
-            Command::Lines(place) => one_number(u32::from(place.get())),
-            Command::Drop(radio) => one_number(radio.get()),
-            Command::End(carrier, slot) => two_numbers(carrier.get(), slot.get()),
-            Command::Move(channel) => one_number(channel.get()),
+            Command::Status => (CommandKind::Status, list_of(&[])),
+            Command::Radios(radio) => (CommandKind::Radios, list_of(&[radio.get()])),
+            Command::Calls(carrier) => (CommandKind::Calls, list_of(&[carrier.get()])),
+            Command::Lines(place) => (CommandKind::Lines, list_of(&[u32::from(place.get())])),
+            Command::Slots => (CommandKind::Slots, list_of(&[])),
+            Command::Drop(radio) => (CommandKind::Drop, list_of(&[radio.get()])),
+            Command::End(carrier, slot) => {
+                (CommandKind::End, list_of(&[carrier.get(), slot.get()]))
+            }
+            Command::Move(channel) => (CommandKind::Move, list_of(&[channel.get()])),
+            Command::Stay => (CommandKind::Stay, list_of(&[])),
         }
+    }
+
+    /// Returns whether the command changes the site. Other commands ask for something.
+    pub fn changes_site(&self) -> bool
+        ensures { result ≡ (row_of self.now).changes_site }
+    {
+        self.parts().0.row().changes_site
     }
 
     /// Returns the command of this kind. Its numbers, `first` and `second` in the order of its words, must be in the
@@ -271,22 +267,12 @@ impl Command {
     }
 }
 
-/// The list of one number.
-fn one_number(number: u32) -> ArrayVec<u32, MOST_NUMBERS>
-    ensures { result.items ≡ number ∷ [] }
+/// The list of these numbers.
+fn list_of(numbers: &[u32]) -> ArrayVec<u32, MOST_NUMBERS>
+    requires { length numbers.now ≤ MOST_NUMBERS }
+    ensures { result.items ≡ numbers.now }
 {
-    let mut numbers = ArrayVec::new();
-    numbers.push(number);
-    numbers
-}
-
-/// The list of two numbers.
-fn two_numbers(first: u32, second: u32) -> ArrayVec<u32, MOST_NUMBERS>
-    ensures { result.items ≡ first ∷ second ∷ [] }
-{
-    let mut numbers = one_number(first);
-    numbers.push(second);
-    numbers
+    ArrayVec::try_from(numbers).unwrap()
 }
 
 /// Writes the words of the command: its name and its numbers, with a space between. A line of these words means it.
@@ -297,8 +283,8 @@ impl fmt::Display for Command {
     ghost output = { λ command. Some (command_text command) };
 
     fn fmt<W: fmt::Write>(&self, f: &mut fmt::Formatter<W>) -> fmt::Result {
-        f.write_str(self.kind().row().name)?;
-        let numbers = self.numbers();
+        let (kind, numbers) = self.parts();
+        f.write_str(kind.row().name)?;
         write_numbers(numbers.as_slice(), f)
     }
 }

@@ -82,7 +82,7 @@ pub struct Note {
 fn occurrence_of_command(command: &Command, outcome: Outcome) -> Option<Occurrence>
     ensures { result ≡ commanded command.now outcome }
 {
-    if command.kind().row().changes_site {
+    if command.changes_site() {
         Some(Occurrence::Commanded {
             command: *command,
             outcome,

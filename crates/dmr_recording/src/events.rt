@@ -99,7 +99,7 @@ fn write_command(place: usize, command: &Command, text: &mut String) -> Result<(
         ⊎ ((fault ≡ RecordingFault.NotSaid place) × (command.now ≡ Command.Drop 0))) }
 {
     // The ranges of the numbers are known once they are read.
-    let _numbers = command.numbers();
+    let _parts = command.parts();
     if is_unsaid(command) {
         Err(RecordingFault::NotSaid(place))
     } else {

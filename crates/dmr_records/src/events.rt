@@ -124,8 +124,7 @@ fn put_numbers(event: &mut EventRow, arguments: &[Argument], numbers: &[u32])
 fn event_of_command(tick: u64, command: &Command, outcome: Outcome) -> EventRow
     ensures { result ≡ event_by_command tick command.now outcome }
 {
-    let kind = command.kind();
-    let numbers = command.numbers();
+    let (kind, numbers) = command.parts();
     let mut event = bare(tick, EventKind::Command(kind));
     put_numbers(&mut event, kind.row().arguments, numbers.as_slice());
     event.reply = Some(outcome);

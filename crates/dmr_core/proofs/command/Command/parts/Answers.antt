@@ -1,7 +1,7 @@
 use Rattle.std.proofs.Common.{◌≢◌, ℕ, zero, suc, ◌<◌, ◌^◌, refl, arith}
 use Rattle.dmr_core.specs.declared.command.Command.TheVariants.{Drop}
 use Rattle.dmr_core.specs.CommandWords.{IsSaid}
-use Rattle.dmr_core.proofs.command.Command.numbers.Goals as goal
+use Rattle.dmr_core.proofs.command.Command.parts.Goals as goal
 
 drop_is_said : (radio : ℕ) → radio < 2 ^ 24 → Drop radio ≢ Drop 0 → IsSaid (Drop radio)
 drop_is_said zero small other = absurd (other refl)

@@ -272,7 +272,9 @@ fn list_of(numbers: &[u32]) -> ArrayVec<u32, MOST_NUMBERS>
     requires { length numbers.now ≤ MOST_NUMBERS }
     ensures { result.items ≡ numbers.now }
 {
-    ArrayVec::try_from(numbers).unwrap()
+    let mut list = ArrayVec::new();
+    let _ = list.try_extend_from_slice(numbers);
+    list
 }
 
 /// Writes the words of the command: its name and its numbers, with a space between. A line of these words means it.

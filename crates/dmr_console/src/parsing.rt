@@ -1,7 +1,7 @@
 //! Reads a line as a command, by the table of commands.
 
-ghost use Rattle.std.specs.Prelude.{◌≡◌, IfSome};
-ghost use Rattle.dmr_core.specs.CommandWords.{IsNumberOf};
+ghost use Rattle.std.specs.Prelude.{◌≡◌, ◌≤◌, IfSome};
+ghost use Rattle.dmr_core.specs.CommandWords.{range_of};
 ghost use Rattle.dmr_console.specs.Words.{words_of_line};
 ghost use Rattle.dmr_console.specs.Commands.{command_by, command_of, command_of_kind, number_as};
 
@@ -63,7 +63,8 @@ fn command_of_kind(kind: CommandKind, line: &[u8]) -> Option<Command>
 /// The number of a word, if it is in the range of an argument.
 fn number_as(argument: &Argument, word: &[u8]) -> Option<u32>
     ensures value { result ≡ number_as argument.now word.now }
-    ensures range { IfSome result (IsNumberOf argument.now) }
+    ensures least { IfSome result (λ number. (range_of argument.now).0 ≤ number) }
+    ensures most { IfSome result (λ number. number ≤ (range_of argument.now).1) }
 {
     let (least, most) = argument.range();
     number_in(least, most, word)

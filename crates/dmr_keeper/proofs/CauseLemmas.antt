@@ -46,11 +46,11 @@ polled plan facts carrier = either (is_up facts carrier)
     either true = list_any-append is_end (acts_for_slot plan facts (record { carrier = carrier; slot = 0 })) (acts_for_slot plan facts (record { carrier = carrier; slot = 1 })) ∙ both
     either false = refl
 
+-- the last case is one for each of the other commands: it may end calls, or its answer has no such act
 by_command : (plan : Settings) (facts : Facts) (c : Command) → list_any is_end (acts_of plan facts (Say c)) ≡ true → MayEndCalls (Say c)
 unfolding answer_to_command
-by_command plan facts (command.Drop radio) has = tt
-by_command plan facts (command.End carrier slot) has = tt
-by_command plan facts _ has = absurd (false≢true has)
+by_command plan facts command.Stay has = cc
+by_command plan facts _ has = cc
 
 pub ends_by : (plan : Settings) (facts : Facts) (event : Event) → list_any is_end (acts_of plan facts event) ≡ true → MayEndCalls event
 ends_by plan facts Tick has = tt

@@ -4,11 +4,11 @@ use Rattle.std.specs.List.{All}
 use Rattle.dmr_calls.specs.declared.call.ActiveCall.{ActiveCall}
 use Rattle.dmr_calls.specs.Limits.{most_calls, most_lines, most_ticks}
 use Rattle.dmr_registry.specs.Limits.{most_radios}
-use Rattle.dmr_core.specs.declared.command.Command.TheVariants as command
 use Rattle.dmr_core.specs.declared.event.Event.{Event}
 use Rattle.dmr_core.specs.declared.event.Event.TheVariants.{Heard, Tick, Say}
 use Rattle.dmr_core.specs.declared.act.Act.{Act}
 use Rattle.dmr_core.specs.declared.act.Act.TheVariants.{Ended}
+use Rattle.dmr_core.specs.CommandWords.{row_of}
 use Rattle.dmr_core.specs.Facts.{Facts}
 use Rattle.dmr_calls.specs.declared.line.Line.{Line}
 use Rattle.dmr_keeper.specs.declared.calls.OpenCall.{OpenCall}
@@ -49,10 +49,9 @@ abbrev pub is_end : Act → Bool
 is_end (Ended slot) = true
 is_end _ = false
 
--- the event may be answered with the end of a call: a Tick, a PDU, and an operator's `drop` and `end`
+-- the event may be answered with the end of a call: a Tick, a PDU, and an operator's command that may end calls
 abbrev pub MayEndCalls : Event → Type 0
 MayEndCalls Tick = Unit {0}
 MayEndCalls (Heard slot pdu) = Unit {0}
-MayEndCalls (Say (command.Drop radio)) = Unit {0}
-MayEndCalls (Say (command.End carrier slot)) = Unit {0}
+MayEndCalls (Say c) = (row_of c).ends_calls ≡ true
 MayEndCalls _ = ⊥

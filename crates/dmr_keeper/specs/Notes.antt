@@ -12,7 +12,6 @@ use Rattle.dmr_pdu.specs.Reasons.{noreg_ms_away, sysbusy_refused, call_cancel_re
 use Rattle.dmr_pdu.specs.Reasons.{reg_denied, ms_not_registered, called_party_busy}
 use Rattle.dmr_pdu.specs.Reasons.{group_not_allowed}
 use Rattle.dmr_core.specs.declared.command.Command.{Command}
-use Rattle.dmr_core.specs.declared.command.Command.TheVariants as command
 use Rattle.dmr_core.specs.declared.reply.Reply.{Reply}
 use Rattle.dmr_core.specs.declared.reply.Reply.TheVariants as reply
 use Rattle.dmr_core.specs.declared.event.Event.{Event}
@@ -21,24 +20,19 @@ use Rattle.dmr_core.specs.declared.act.Act.{Act}
 use Rattle.dmr_core.specs.declared.act.Act.TheVariants.{Queue}
 use Rattle.dmr_core.specs.declared.act.Acts.{Acts}
 use Rattle.dmr_core.specs.declared.entry.Entry.{Entry}
+use Rattle.dmr_core.specs.CommandWords.{row_of}
 use Rattle.dmr_core.specs.Late.{carrier_on}
 use Rattle.dmr_keeper.specs.declared.notes.Outcome.{Outcome}
 use Rattle.dmr_keeper.specs.declared.notes.Outcome.TheVariants as outcome
 use Rattle.dmr_keeper.specs.declared.notes.Occurrence.{Occurrence}
 use Rattle.dmr_keeper.specs.declared.notes.Occurrence.TheVariants.{CameUp, WasLost, JoinedCall}
-use Rattle.dmr_keeper.specs.declared.notes.Occurrence.TheVariants.{Refused, DropCommand}
-use Rattle.dmr_keeper.specs.declared.notes.Occurrence.TheVariants.{EndCommand, MoveCommand}
-use Rattle.dmr_keeper.specs.declared.notes.Occurrence.TheVariants.{StayCommand}
+use Rattle.dmr_keeper.specs.declared.notes.Occurrence.TheVariants.{Refused, Commanded}
 use Rattle.dmr_keeper.specs.declared.notes.Note.{Note}
 use Rattle.dmr_keeper.specs.Ticks.{told_along}
 
 -- what a command with this result is noted as, if it is one that changes the site
 abbrev pub occurrence_of_command : Command → Outcome → Option Occurrence
-occurrence_of_command (command.Drop radio) o = Some (DropCommand radio o)
-occurrence_of_command (command.End carrier slot) o = Some (EndCommand carrier slot o)
-occurrence_of_command (command.Move channel) o = Some (MoveCommand channel o)
-occurrence_of_command command.Stay o = Some (StayCommand o)
-occurrence_of_command _ o = None
+occurrence_of_command c o = if (row_of c).changes_site then Some (Commanded c o) else None
 
 -- the result of a command that changes the site, by its reply
 abbrev pub outcome_of : Reply → Option Outcome

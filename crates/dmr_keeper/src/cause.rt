@@ -19,7 +19,7 @@ pub enum EndCause {
     RadioLeft,
     /// An operator dropped a radio that took part in it: the command `drop`.
     Dropped,
-    /// An operator ended it: the command `end`.
+    /// An operator ended it by another command, such as `end`.
     EndedByOperator,
     /// Its carrier was lost, or came up again.
     CarrierLost,
@@ -43,14 +43,7 @@ fn cause_by_command(command: &Command) -> EndCause
 {
     match command {
         Command::Drop(_) => EndCause::Dropped,
-        Command::Status
-        | Command::Radios(_)
-        | Command::Calls(_)
-        | Command::Lines(_)
-        | Command::Slots
-        | Command::End(_, _)
-        | Command::Move(_)
-        | Command::Stay => EndCause::EndedByOperator,
+        _ => EndCause::EndedByOperator,
     }
 }
 

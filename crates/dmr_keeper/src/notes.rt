@@ -60,31 +60,10 @@ pub enum Occurrence {
         /// The reason code of the acknowledgement.
         reason: Reason,
     },
-    /// An operator sent `drop`, to end the registration of a radio and what engages it.
-    DropCommand {
-        /// The radio.
-        radio: Address,
-        /// The result.
-        outcome: Outcome,
-    },
-    /// An operator sent `end`, to end the call on a slot of a carrier.
-    EndCommand {
-        /// The carrier.
-        carrier: CarrierNo,
-        /// The slot of the carrier.
-        slot: SlotNo,
-        /// The result.
-        outcome: Outcome,
-    },
-    /// An operator sent `move`, to move the control channel.
-    MoveCommand {
-        /// The channel to move it to.
-        channel: Lpcn,
-        /// The result.
-        outcome: Outcome,
-    },
-    /// An operator sent `stay`, to end the move.
-    StayCommand {
+    /// An operator sent a command that changes the site.
+    Commanded {
+        /// The command.
+        command: Command,
         /// The result.
         outcome: Outcome,
     },
@@ -103,26 +82,13 @@ pub struct Note {
 fn occurrence_of_command(command: &Command, outcome: Outcome) -> Option<Occurrence>
     ensures { result ≡ commanded command.now outcome }
 {
-    match command {
-        Command::Drop(radio) => Some(Occurrence::DropCommand {
-            radio: *radio,
+    if command.changes_site() {
+        Some(Occurrence::Commanded {
+            command: *command,
             outcome,
-        }),
-        Command::End(carrier, slot) => Some(Occurrence::EndCommand {
-            carrier: *carrier,
-            slot: *slot,
-            outcome,
-        }),
-        Command::Move(channel) => Some(Occurrence::MoveCommand {
-            channel: *channel,
-            outcome,
-        }),
-        Command::Stay => Some(Occurrence::StayCommand { outcome }),
-        Command::Status
-        | Command::Radios(_)
-        | Command::Calls(_)
-        | Command::Lines(_)
-        | Command::Slots => None,
+        })
+    } else {
+        None
     }
 }
 

@@ -58,8 +58,8 @@ ANSWERS: tuple[list[Columns], ...] = (
 
 def statements_of(name: str) -> str:
     """The statements of a constant in the crate's source, as the compiler reads it."""
-    source = (TOP / "crates/dmr_records/src/tables.rt").read_text(encoding="utf-8")
-    found = re.search(rf'^const {name}: &str = "(.*?)";$', source, re.M | re.S)
+    source = (TOP / "crates/dmr_records/src/rows.rt").read_text(encoding="utf-8")
+    found = re.search(rf'^pub const {name}: &str = "(.*?)";$', source, re.M | re.S)
     assert found
     return re.sub(r"\\\n *", "", found[1])
 

@@ -1,5 +1,5 @@
 /*
- * What a soak has to reach: the rows of the rules' tables, which site_machine.h has before it includes this, and here what
+ * What a soak has to reach. site_machine.h has the rows of the rules' tables, and includes this after them. Here is what
  * docs/SITE_MACHINE.md says in its text, and docs/FORMATS.md of frames, sessions and the console. A table is a macro; its rows
  * are ROW(name, words).
  */

@@ -66,11 +66,10 @@ version_before = 1
 
 abbrev pub term_columns : List Column
 term_columns =
-    integer "ended_ms" ∷ integer "tick_ms" ∷ integer "last_tick" ∷ integer "entries"
-    ∷ integer "heard" ∷ integer "requests" ∷ integer "noise" ∷ integer "active" ∷ integer "polls"
-    ∷ integer "ticks" ∷ integer "commands" ∷ integer "grants" ∷ integer "late_entries"
-    ∷ integer "registrations" ∷ integer "refusals" ∷ integer "begun" ∷ integer "ended"
-    ∷ integer "most_lines" ∷ []
+    map integer
+    ("ended_ms" ∷ "tick_ms" ∷ "last_tick" ∷ "entries" ∷ "heard" ∷ "requests" ∷ "noise" ∷ "active"
+    ∷ "polls" ∷ "ticks" ∷ "commands" ∷ "grants" ∷ "late_entries" ∷ "registrations" ∷ "refusals"
+    ∷ "begun" ∷ "ended" ∷ "most_lines" ∷ [])
 
 -- the row of a term: its time, the ticks up to its end, and its counts
 abbrev pub put_term : TermTime → ℕ → TermCounts → Statement
@@ -85,9 +84,10 @@ put_term time ticks c = record {
 
 abbrev pub call_columns : List Column
 call_columns =
-    integer "term" ∷ integer "carrier" ∷ integer "slot" ∷ integer "is_group" ∷ integer "source"
-    ∷ integer "target" ∷ integer "began" ∷ integer "began_ms" ∷ integer "ended" ∷ integer "ended_ms"
-    ∷ word "cause" ∷ added_in 2 (integer_or_null "waited") ∷ []
+    map integer
+    ("term" ∷ "carrier" ∷ "slot" ∷ "is_group" ∷ "source" ∷ "target" ∷ "began" ∷ "began_ms" ∷ "ended"
+    ∷ "ended_ms" ∷ [])
+    ++ word "cause" ∷ added_in 2 (integer_or_null "waited") ∷ []
 
 -- the row of a call in the term with this row
 abbrev pub put_call : TermRow → EndedCall → Statement
@@ -102,10 +102,10 @@ put_call term c = record {
 
 abbrev pub event_columns : List Column
 event_columns =
-    integer "term" ∷ integer "tick" ∷ integer "at_ms" ∷ word "kind"
-    ∷ integer_or_null "carrier" ∷ integer_or_null "slot" ∷ integer_or_null "radio"
-    ∷ integer_or_null "target" ∷ integer_or_null "channel" ∷ integer_or_null "reason"
-    ∷ word_or_null "reply" ∷ []
+    map integer ("term" ∷ "tick" ∷ "at_ms" ∷ [])
+    ++ word "kind" ∷ []
+    ++ map integer_or_null ("carrier" ∷ "slot" ∷ "radio" ∷ "target" ∷ "channel" ∷ "reason" ∷ [])
+    ++ word_or_null "reply" ∷ []
 
 -- the row of an event in the term with this row
 abbrev pub put_event : TermRow → EventRow → Statement
@@ -121,8 +121,7 @@ put_event term e = record {
 abbrev pub carrier_columns : List Column
 carrier_columns =
     map (added_in 2)
-    (integer "term" ∷ integer "carrier" ∷ integer "polls" ∷ integer "heard" ∷ integer "noise"
-    ∷ integer "active" ∷ [])
+    (map integer ("term" ∷ "carrier" ∷ "polls" ∷ "heard" ∷ "noise" ∷ "active" ∷ []))
 
 -- the row of the counts of a carrier in the term with this row
 abbrev pub put_carrier : TermRow → CarrierCounts → Statement

@@ -50,9 +50,9 @@ all_tables =
     ∷ table_of "terms" (key "number" ∷ term_columns)
     ∷ table_of "calls" (key "number" ∷ call_columns)
     ∷ table_of "events" (key "number" ∷ event_columns)
-    ∷ (record (table_of "carriers" carrier_columns) {
+    ∷ record (table_of "carriers" carrier_columns) {
       together = codes "PRIMARY KEY (term, carrier)" ∷ [];
-    })
+    }
     ∷ table_of "registrations" registration_columns
     ∷ table_of "removed"
     (integer_or_null "calls" ∷ integer_or_null "events" ∷ integer_or_null "terms" ∷ [])

@@ -1,11 +1,13 @@
 //! Calls that are open, and calls that ended.
 
 ghost use Rattle.std.specs.Prelude.{◌≡◌, map};
-ghost use Rattle.dmr_keeper.specs.Calls.{begun_at, with_activity_on, one_tick_on};
+ghost use Rattle.dmr_keeper.specs.Calls.{begun_at, ended_at as ended_call_at};
+ghost use Rattle.dmr_keeper.specs.Calls.{one_tick_on, with_activity_on};
 
-use crate::cause::EndCause;
+use crate::cause::{EndCause, cause_of};
 use crate::lines::{OpenLine, waited_at};
 use dmr_calls::{ActiveCall, Call};
+use dmr_core::Event;
 use dmr_pdu::Slot;
 
 /// A call that began and has not ended.
@@ -56,12 +58,11 @@ impl OpenCall {
     {
         OpenCall {
             standing: ActiveCall {
-                call: self.standing.call,
                 age: self.standing.age.saturating_add(1),
                 quiet: self.standing.quiet.saturating_add(1),
+                ..self.standing
             },
-            began: self.began,
-            waited: self.waited,
+            ..*self
         }
     }
 
@@ -72,15 +73,26 @@ impl OpenCall {
         if self.standing.call.slot == *slot {
             OpenCall {
                 standing: ActiveCall {
-                    call: self.standing.call,
-                    age: self.standing.age,
                     quiet: 0,
+                    ..self.standing
                 },
-                began: self.began,
-                waited: self.waited,
+                ..*self
             }
         } else {
             *self
+        }
+    }
+
+    /// The record of the call if it ends at this tick, in an entry with this event.
+    pub(crate) fn ended_at(&self, hang: u16, event: &Event, tick: u64) -> EndedCall
+        ensures { result ≡ ended_call_at hang event.now tick self.now }
+    {
+        EndedCall {
+            call: self.standing.call,
+            began: self.began,
+            ended: tick,
+            waited: self.waited,
+            cause: cause_of(hang, event, &self.standing),
         }
     }
 }

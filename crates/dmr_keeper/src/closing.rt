@@ -7,7 +7,6 @@ ghost use Rattle.dmr_keeper.specs.Calls.{open_after_entry, open_by_act, open_by_
 ghost use Rattle.dmr_keeper.specs.Closing.{is_covered};
 
 use crate::calls::{EndedCall, OpenCall, count_tick, mark_active};
-use crate::cause::cause_of;
 use crate::lines::OpenLine;
 use dmr_core::{Act, Entry, Event};
 use dmr_pdu::{CarrierNo, OutOfMemory, Slot};
@@ -33,19 +32,6 @@ impl Closing {
     }
 }
 
-/// The record of a call that ends at this tick, in an entry with this event.
-fn ended_at(hang: u16, event: &Event, tick: u64, call: &OpenCall) -> EndedCall
-    ensures { result ≡ ended_call_at hang event.now tick call.now }
-{
-    EndedCall {
-        call: call.standing.call,
-        began: call.began,
-        ended: tick,
-        waited: call.waited,
-        cause: cause_of(hang, event, &call.standing),
-    }
-}
-
 /// Adds the records of the calls that end.
 fn add_ended(
     hang: u16,
@@ -60,7 +46,7 @@ fn add_ended(
 {
     for call in calls {
         if closing.covers(call) {
-            ended.push(ended_at(hang, event, tick, call))?;
+            ended.push(call.ended_at(hang, event, tick))?;
         }
     }
     Ok(())

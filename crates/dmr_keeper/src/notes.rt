@@ -3,7 +3,7 @@
 ghost use Rattle.std.specs.Prelude.{◌≡◌, ◌+◌, ◌<◌, ◌^◌, ◌++◌, filter_map, find, IfOk, OnOk};
 ghost use Rattle.std.specs.Option.{option_to_list};
 ghost use Rattle.dmr_core.specs.Late.{carrier_on as carrier_by_channel};
-ghost use Rattle.dmr_keeper.specs.Notes.{is_late_grant as grants_late, is_refusal as refuses};
+ghost use Rattle.dmr_keeper.specs.Notes.{is_late_grant as grants_late};
 ghost use Rattle.dmr_keeper.specs.Notes.{note_by_act, note_if, notes_in, notes_in_entry};
 ghost use Rattle.dmr_keeper.specs.Notes.{occurrence_by_act, occurrence_by_command};
 ghost use Rattle.dmr_keeper.specs.Notes.{occurrence_by_event, occurrence_by_grant};
@@ -197,28 +197,6 @@ fn occurrence_of_event(plan: &Plan, event: &Event, answer: &Acts) -> Option<Occu
     }
 }
 
-/// The reasons of acknowledgements that refuse a request.
-const REFUSALS: [Reason; 11] = [
-    Reason::NOT_SUPPORTED,
-    Reason::PERM_USER_REFUSED,
-    Reason::TRANSIENT_SYS_REFUSED,
-    Reason::NOREG_MS_AWAY,
-    Reason::SYSBUSY_REFUSED,
-    Reason::CALL_CANCEL_REFUSED,
-    Reason::REG_REFUSED,
-    Reason::REG_DENIED,
-    Reason::MS_NOT_REGISTERED,
-    Reason::CALLED_PARTY_BUSY,
-    Reason::GROUP_NOT_ALLOWED,
-];
-
-/// Reports whether an acknowledgement with this reason refuses a request.
-pub fn is_refusal(reason: &Reason) -> bool
-    ensures { result ≡ refuses reason.now }
-{
-    REFUSALS.iter().any(|refusal| *refusal == *reason)
-}
-
 /// What an act is noted as: a refusal is one that queues an acknowledgement with such a reason.
 pub fn occurrence_of_act(act: &Act) -> Option<Occurrence>
     ensures { result ≡ occurrence_by_act act.now }
@@ -235,7 +213,7 @@ pub fn occurrence_of_act(act: &Act) -> Option<Occurrence>
     else {
         return None;
     };
-    if is_refusal(reason) {
+    if reason.is_refusal() {
         Some(Occurrence::Refused {
             source: *target,
             target: *additional,

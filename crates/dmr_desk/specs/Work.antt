@@ -2,10 +2,9 @@
 use Rattle.std.specs.Prelude.{◌≡◌, ◌≤◌, ◌+◌, ◌⊎◌, ℕ, true, List, [], ◌∷◌, ◌++◌, Option, Some, None}
 use Rattle.std.specs.Prelude.{length, map}
 use Rattle.dmr_wire.specs.Answers.{Answer, Opened, NotYet, Finished, Again, Silent, Reports}
-use Rattle.dmr_core.specs.declared.event.Event.{Event}
 use Rattle.dmr_link.specs.declared.desk.Deposit.{Deposit}
 use Rattle.dmr_link.specs.declared.desk.Desk.{Ghosts as Desk}
-use Rattle.dmr_link.specs.declared.desk.TermOver.{TermOver}
+use Rattle.dmr_link.specs.Desks.{HasRefused}
 use Rattle.dmr_link.specs.declared.ended.Ended.{Ended}
 use Rattle.dmr_link.specs.declared.ended.Ended.TheVariants as ended
 use Rattle.dmr_link.specs.declared.stream.Peer.{Peer}
@@ -242,11 +241,6 @@ WorksUntil m n e =
     × AsksForEach m.questions doings e n.questions
 
 -- ---- the desk said that the term is over
-
--- the desk refused an event, and is as it then was
-abbrev pub HasRefused : {D : Type 0} → Desk D → D → Type 0
-HasRefused {D = D} its desk =
-    (before : D) × (event : Event) × (over : TermOver) × its.refuses before event over desk
 
 -- the last that the desk said was that the term is over: it refused an event, or was asked
 abbrev pub SaidOver : {D : Type 0} → Desk D → D → Type 0

@@ -12,23 +12,14 @@ use Rattle.dmr_wire.specs.declared.closing.Closing.TheVariants as closing
 use Rattle.dmr_link.specs.declared.stream.Peer.{Peer}
 use Rattle.dmr_link.specs.declared.stream.Stream.{Stream}
 use Rattle.dmr_link.specs.declared.link_state.LinkState.{LinkState}
-use Rattle.dmr_link.specs.Meaning.{list_of_notice}
+use Rattle.dmr_link.specs.Notices.{list_of_notice}
 use Rattle.dmr_link.specs.Session.{events_in, event_in}
 use Rattle.dmr_link.specs.Peers.{meaning_from, left_from, text_onward, next_onward, text_to_peer, peer_notice_text, up_of, all_produce, left_after, closes_by}
 use Rattle.dmr_link.specs.Sessions.{How, Going, InputOver, ReadFaulty, WriteFaulty, CutAfter, Session, with_came, with_taken, how_then, with_how, closed_by, kept_of, lost_of, notices_waiting, IsClosed, IsLeftBy, IsQuiet}
 use Rattle.dmr_link.specs.LinkSteps.{closed_as, kept_then, peer_notice_of, closing_then, state_after}
 use Rattle.dmr_link.proofs.ClosingsByOctets.{closes_how, closing_more}
 use Rattle.dmr_link.proofs.TextsGrow.{events_of, text_quiet, next_quiet, text_aside, next_aside, text_nothing, next_nothing, meaning_more, left_more, meaning_end, next_of}
-use Rattle.dmr_link.proofs.LinksAfterSteps.{session}
-
--- while a link is quiet, its connection has not ended
-by_going : (l : LinkState) → IsQuiet l → (s : Session) (P : How → Type 0) → (IsLeftBy l (session s.came s.taken Going s.is_cut s.calls) → P Going) → (how : How) → IsLeftBy l (session s.came s.taken how s.is_cut s.calls) → P how
-by_going l quiet s P here Going h = here h
-by_going l quiet s P here InputOver h = absurd (quiet.stays h.place.1)
-by_going l quiet s P here ReadFaulty h = absurd (quiet.stays h.place.1)
-by_going l quiet s P here WriteFaulty h = absurd (quiet.stays h.place.0)
-by_going l quiet s P here (CutAfter n false) h = absurd (quiet.stays h.place.1)
-by_going l quiet s P here (CutAfter n true) h = absurd (quiet.stays h.place.1)
+use Rattle.dmr_link.proofs.LinksAfterSteps.{by_going, session}
 
 -- ---- a piece of unread octets is processed
 

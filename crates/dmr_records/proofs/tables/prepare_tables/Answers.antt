@@ -27,31 +27,35 @@ returns-in-Err-commit_batch-clause-crash g c =
     (λ clean. none_needs g.S.Store _ _ (rw c.in-Ok-None.field-0-is at c.in-Ok-None.ensures.found clean))
     c.find_version.ensures.survives c.commit_batch.ensures.crash
 
-pub returns-in-Ok-commit_batch-2-clause-prepared : goal.returns-in-Ok-commit_batch-2-clause-prepared
-returns-in-Ok-commit_batch-2-clause-prepared g c clean =
+pub returns-in-Ok-commit_batch-clause-prepared : goal.returns-in-Ok-commit_batch-clause-prepared
+returns-in-Ok-commit_batch-clause-prepared g c clean =
+    let crash = c.commit_batch-then-found-eq-VERSION_BEFORE.ensures.crash in
     let is : c.in-Ok-Some.found ≡ pos version_before = search rules in
-    let has = rw c.in-Ok-Some.field-0-is at c.in-Ok-Some.ensures.found (omega (arith, c.commit_batch-2.ensures.crash.clean)) in
-    let made = c.in-Ok-commit_batch-2.ensures.made clean in
+    let has = rw c.in-Ok-Some.field-0-is at c.in-Ok-Some.ensures.found (omega (arith, crash.clean)) in
+    let made = c.in-Ok-commit_batch.ensures.made clean in
     inr (c.find_version.new.conn, CARRY_OVER.now, before_needs g.S.Store _ _ c.in-Ok-Some.found has is, made)
 
-pub returns-in-Ok-commit_batch-2-clause-crash : goal.returns-in-Ok-commit_batch-2-clause-crash
-returns-in-Ok-commit_batch-2-clause-crash g c =
+pub returns-in-Ok-commit_batch-clause-crash : goal.returns-in-Ok-commit_batch-clause-crash
+returns-in-Ok-commit_batch-clause-crash g c =
+    let batch = c.commit_batch-then-found-eq-VERSION_BEFORE in
     let is : c.in-Ok-Some.found ≡ pos version_before = search rules in
-    may_prepare g.S.Store CARRY_OVER.now c.args.conn.now c.find_version.new.conn c.commit_batch-2.new.conn
+    may_prepare g.S.Store CARRY_OVER.now c.args.conn.now c.find_version.new.conn batch.new.conn
     (λ clean. before_needs g.S.Store _ _ c.in-Ok-Some.found (rw c.in-Ok-Some.field-0-is at c.in-Ok-Some.ensures.found clean) is)
-    c.find_version.ensures.survives c.commit_batch-2.ensures.crash
+    c.find_version.ensures.survives batch.ensures.crash
 
 pub returns-in-Err-commit_batch-2-clause-not_prepared : goal.returns-in-Err-commit_batch-2-clause-not_prepared
 returns-in-Err-commit_batch-2-clause-not_prepared g c clean =
+    let crash = c.commit_batch-then-found-eq-VERSION_BEFORE.ensures.crash in
     let is : c.in-Ok-Some.found ≡ pos version_before = search rules in
-    let has = rw c.in-Ok-Some.field-0-is at c.in-Ok-Some.ensures.found (omega (arith, c.commit_batch-2.ensures.crash.clean)) in
+    let has = rw c.in-Ok-Some.field-0-is at c.in-Ok-Some.ensures.found (omega (arith, crash.clean)) in
     let needs = before_needs g.S.Store _ _ c.in-Ok-Some.found has is in
     let made = c.in-Err-commit_batch-2.ensures.not_made clean in
     inl (_, inr (c.find_version.new.conn, CARRY_OVER.now, needs, made), c.fault_of-in-Err-commit_batch-2.ensures)
 
 pub returns-in-Err-commit_batch-2-clause-crash : goal.returns-in-Err-commit_batch-2-clause-crash
 returns-in-Err-commit_batch-2-clause-crash g c =
+    let batch = c.commit_batch-then-found-eq-VERSION_BEFORE in
     let is : c.in-Ok-Some.found ≡ pos version_before = search rules in
-    may_prepare g.S.Store CARRY_OVER.now c.args.conn.now c.find_version.new.conn c.commit_batch-2.new.conn
+    may_prepare g.S.Store CARRY_OVER.now c.args.conn.now c.find_version.new.conn batch.new.conn
     (λ clean. before_needs g.S.Store _ _ c.in-Ok-Some.found (rw c.in-Ok-Some.field-0-is at c.in-Ok-Some.ensures.found clean) is)
-    c.find_version.ensures.survives c.commit_batch-2.ensures.crash
+    c.find_version.ensures.survives batch.ensures.crash

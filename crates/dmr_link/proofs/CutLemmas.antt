@@ -1,5 +1,5 @@
 -- What `open` and `cut` do to a link.
-use Rattle.std.proofs.Common.{◌≡◌, ◌∙◌, refl, sym, ap, subst, Bool, true, false, List, Option}
+use Rattle.std.proofs.Common.{◌≡◌, ◌∙◌, refl, sym, ap, true, false, List, Option}
 use Rattle.std.specs.Prelude.{not, None, Result, Ok, Err, IfOk, IfErr}
 use Rattle.std.proofs.lemmas.Bool.{false≢true}
 use Rattle.dmr_wire.specs.Answers.{Answer}
@@ -15,7 +15,7 @@ use Rattle.dmr_link.specs.LinkSteps.{cut_state, is_live, with_new_connection}
 use Rattle.dmr_link.specs.Moves.{Moves, moment}
 use Rattle.dmr_link.specs.Passages.{Passage}
 use Rattle.dmr_link.specs.Peers.{is_going}
-use Rattle.dmr_link.specs.Sessions.{Cuts, IsOver, sides}
+use Rattle.dmr_link.specs.Sessions.{IsOver, sides}
 use Rattle.dmr_link.proofs.LinksHavePasts.{cuts, dead_over, opens}
 use Rattle.dmr_link.proofs.StepLemmas.{keeps_same}
 

@@ -279,7 +279,7 @@ module _ (l : LinkState) (c : ℕ) (acts : Acts) (lost : l.pending.lost ≡ Some
   over came taken how cut calls h =
       let placed = place_lost how h.read _ _ h.behind h.place in
       let mine : IsOwn l.who (Happened (Lost c)) =
-          own h.read h.done (ap (meaning_from l.who h.read) (sym placed.0) ∙ h.means) in
+      own h.read h.done (ap (meaning_from l.who h.read) (sym placed.0) ∙ h.means) in
       record {
         read = h.read;
         behind = h.behind;

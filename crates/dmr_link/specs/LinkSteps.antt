@@ -2,7 +2,6 @@
 -- nothing above depends on the others. `Ghosts` of a trait is what an implementation of it shows to contracts.
 use Rattle.std.specs.Prelude.{◌≡◌, ℕ, ◌<◌, ◌≤◌, Bool, true, false, ◌||◌, List, [], ◌++◌, length}
 use Rattle.std.specs.Prelude.{Option, Some, None, Result, Ok, Err, IfErr}
-use Rattle.dmr_core.specs.declared.event.Event.{Event}
 use Rattle.dmr_core.specs.declared.event.Event.TheVariants.{Lost}
 use Rattle.dmr_wire.specs.Answers.{Answer}
 use Rattle.dmr_wire.specs.declared.wire.Wire.{Ghosts as Wire}

@@ -2,7 +2,7 @@ use Rattle.std.proofs.Common.{◌≡◌, ◌∙◌, sym, subst, true}
 use Rattle.std.specs.Prelude.{Ok}
 use Rattle.dmr_link.specs.declared.link_state.LinkState.{LinkState}
 use Rattle.dmr_link.specs.Cutting.{CutsOff}
-use Rattle.dmr_link.specs.LinkSteps.{cut_state, is_live}
+use Rattle.dmr_link.specs.LinkSteps.{is_live}
 use Rattle.dmr_link.proofs.CutLemmas.{cuts_off, cuts_off_not}
 use Rattle.dmr_link.proofs.console_link.ConsoleLink.cut.Given.{Over}
 use Rattle.dmr_link.proofs.console_link.ConsoleLink.cut.Goals as goal

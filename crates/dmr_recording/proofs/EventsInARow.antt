@@ -11,6 +11,7 @@ use Rattle.dmr_pdu.specs.declared.pdu.Pdu.{Pdu}
 use Rattle.dmr_plan.specs.declared.settings.Settings.{Settings}
 use Rattle.dmr_core.specs.declared.event.Event.{Event}
 use Rattle.dmr_core.specs.declared.event.Event.TheVariants as event
+use Rattle.dmr_core.specs.CommandWords.{command_text}
 use Rattle.dmr_frames.specs.declared.frame.FrameIn.TheVariants as frame
 use Rattle.dmr_link.specs.Identities.{who_of}
 use Rattle.dmr_link.specs.Input.{Input, Ticking}

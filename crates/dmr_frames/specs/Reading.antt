@@ -80,8 +80,8 @@ ProduceAtLast rest (x ∷ y ∷ octets) step =
 abbrev pub rest_after_octets : Rest → List ℕ → Rest
 rest_after_octets rest octets = fold rest_after_octet rest octets
 
--- octets are cut up to the end of the next frame, up to a fault, or all of them: the first `count`, and this is the step
--- of the last of these
+-- the first `count` of these octets are taken: up to the end of the next frame, up to a fault, or all of them. The last of
+-- them has this step
 pub record CutsPiece (old new : Rest) (octets : List ℕ) (count : ℕ) (step : Step) : Type 0 where
   pub within : count ≤ length octets
   pub whole : step ≡ Need → count ≡ length octets

@@ -264,7 +264,7 @@ module _ (l : LinkState) (c : ℕ) (acts : Acts) (lost : l.pending.lost ≡ Some
     short = took.short;
   }
 
-  -- where it is, by how the connection ended: it has, since a Lost is pending
+  -- the state of the link, by how the connection ended: it has ended, since a Lost is pending
   place_lost : (how : How) (read : List ℕ) (next new : Option ℕ) (behind : List ℕ) → IsAt how l read next behind →
       (has_ended how ≡ true) × IsAt how (unlost l) read new behind
   place_lost Going read next new behind place = let e1 = place.2 in absurd (cc (e1, lost))

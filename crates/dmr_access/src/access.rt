@@ -8,7 +8,7 @@ ghost use Rattle.dmr_access.specs.Noise.{AreNoiseNumbers, noise_at_up, with_nois
 ghost use Rattle.dmr_access.specs.Noise.{backoff_of};
 ghost use Rattle.dmr_access.specs.Fill.{aloha_pdu, fill_of, is_late_due, move_to, next_fill_count};
 ghost use Rattle.dmr_access.specs.Fill.{window_of};
-ghost use Rattle.dmr_access.specs.Same.{are_alike};
+ghost use Rattle.dmr_access.specs.Same.{are_alike, are_same};
 
 use circular_buffer::HeapCircularBuffer;
 use dmr_pdu::{Address, Lpcn, Number, OutOfMemory, Pdu};
@@ -282,6 +282,16 @@ impl Access {
         }
     }
 
+    /// Reports whether two values have the same sections, noise numbers and counts of Fills.
+    fn equals(&self, other: &Access) -> bool
+        ensures { result ≡ are_same self.now other.now }
+    {
+        self.system == other.system
+            && self.aloha == other.aloha
+            && self.calls == other.calls
+            && self.has_same_noise_and_fills(other)
+    }
+
     /// Reports whether two values have the same noise numbers and counts of Fills. Their sections are not compared.
     pub fn has_same_noise_and_fills(&self, other: &Access) -> bool
         ensures { result ≡ are_alike self.now other.now }
@@ -303,10 +313,7 @@ impl PartialEq for Access {
         ensures gives { result ≡ are_same self.now other.now }
         ensures same { IsTrue result ↔ (self.now ≡ other.now) }
     {
-        self.system == other.system
-            && self.aloha == other.aloha
-            && self.calls == other.calls
-            && self.has_same_noise_and_fills(other)
+        self.equals(other)
     }
 }
 

@@ -20,7 +20,7 @@ seat_with_deposit seat event acts = record {
 }
 
 -- settings that no site file yields; it does not matter which
-abbrev pub no_settings : Settings
+pub no_settings : Settings
 no_settings = search (zero, false, None, [])
 
 -- a desk: the site when it was opened, the limit of its journal, and the number of its actors

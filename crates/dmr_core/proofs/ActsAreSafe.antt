@@ -94,12 +94,12 @@ target_counts : (source target : ℕ) → 0 < party target false source target
 target_counts source target = rw (equal_itself target) (omega arith)
 
 party_known : (plan : Settings) (now : Facts) (slot : Slot) (call : Call) (r : ℕ) → IsSound plan now → call_on now.calls slot ≡ Some call → 0 < party r call.group call.source call.target → is_registered now r ≡ true
-party_known plan now slot call r h stands k = h.parties r (omega (arith, active_call_counts now.calls slot call r stands))
+party_known plan now slot call r h stands k = h.radios.parties r (omega (arith, active_call_counts now.calls slot call r stands))
 
 group_known : (plan : Settings) (now : Facts) (slot : Slot) (call : Call) → IsSound plan now → call_on now.calls slot ≡ Some call → call.group ≡ true → lists_group plan call.target ≡ true
 group_known plan now slot call h stands group =
     let s = found_call (λ x. is_slot x.call.slot slot) (find (λ x. is_slot x.call.slot slot) now.calls) call stands in
-    h.called call.target (find_any (λ x. is_slot x.call.slot slot) (λ x. x.call.group && (x.call.target == call.target)) now.calls s.0 s.1
+    h.calls.listed call.target (find_any (λ x. is_slot x.call.slot slot) (λ x. x.call.group && (x.call.target == call.target)) now.calls s.0 s.1
     (subst (λ (k : Call). (k.group && (k.target == call.target)) ≡ true) (sym s.2) (rw (group, equal_itself call.target) refl)))
 
 call_known : (plan : Settings) (now : Facts) (call : Call) (late : Bool) → IsSound plan now → call_on now.calls call.slot ≡ Some call → NamesKnown plan now (grant_pdu plan call late)
@@ -136,8 +136,8 @@ sent_own : (plan : Settings) (now : Facts) (there slot : Slot) (pdu : Pdu) (call
 sent_own plan now there slot pdu call p h small first stands = either (is_slot there (control_slot plan)) refl
   where
     either : (b : Bool) → is_slot there (control_slot plan) ≡ b → is_own plan call pdu ≡ true
-    either true e = first_own (is_own plan call) (outbox now there) pdu first (subst (λ (x : Slot). list_all (is_own plan call) (outbox now x) ≡ true) (sym (same_slot there (control_slot plan) e)) (h.own slot call stands))
-    either false e = not_grant_own plan call pdu (first_none is_grant (outbox now there) pdu first (h.elsewhere there small e))
+    either true e = first_own (is_own plan call) (outbox now there) pdu first (subst (λ (x : Slot). list_all (is_own plan call) (outbox now x) ≡ true) (sym (same_slot there (control_slot plan) e)) (h.calls.own slot call stands))
+    either false e = not_grant_own plan call pdu (first_none is_grant (outbox now there) pdu first (h.pool.elsewhere there small e))
 
 grant_names : (plan : Settings) (call : Call) (late : Bool) → names (lpcn_of plan call.slot.carrier) call.slot.slot (grant_pdu plan call late) ≡ true
 grant_names plan call late = either call.group refl
@@ -206,7 +206,7 @@ call_names plan c now call late p there h stands none = carrier_named plan c cal
     either : (b : Bool) → (lpcn_of plan call.slot.carrier == lpcn_of plan c) ≡ b → b ≡ false
     either true e =
         let on = call_is_active now.calls call.slot call stands in
-        let same : call.slot.carrier ≡ c = p.channels call.slot.carrier c (h.payload call.slot on.0).known there (equal_numbers (lpcn_of plan call.slot.carrier) (lpcn_of plan c) e) in
+        let same : call.slot.carrier ≡ c = p.channels call.slot.carrier c (h.calls.payload call.slot on.0).known there (equal_numbers (lpcn_of plan call.slot.carrier) (lpcn_of plan c) e) in
         true_false _ (subst (λ (n : ℕ). has_call now.calls n ≡ true) same (active_on_carrier now.calls call.slot call stands)) none
     either false e = refl
 

@@ -129,13 +129,13 @@ found_within v p most (x ∷ xs) all = either (p x) (all 0 x (omega arith)) (fou
     either false here more = more
 
 pub age_before : (plan : Settings) (facts : Facts) (slot : Slot) → IsSound plan facts → age_on facts.calls slot ≤ 65535
-age_before plan facts slot sound = found_within (λ (s : ActiveCall). s.age) (λ (s : ActiveCall). is_slot s.call.slot slot) 65535 facts.calls (λ k d within. (sound.ages k d within).0)
+age_before plan facts slot sound = found_within (λ (s : ActiveCall). s.age) (λ (s : ActiveCall). is_slot s.call.slot slot) 65535 facts.calls (λ k d within. (sound.calls.ages k d within).0)
 
 pub quiet_before : (plan : Settings) (facts : Facts) (slot : Slot) → IsSound plan facts → quiet_on facts.calls slot ≤ 65535
-quiet_before plan facts slot sound = found_within (λ (s : ActiveCall). s.quiet) (λ (s : ActiveCall). is_slot s.call.slot slot) 65535 facts.calls (λ k d within. (sound.ages k d within).1)
+quiet_before plan facts slot sound = found_within (λ (s : ActiveCall). s.quiet) (λ (s : ActiveCall). is_slot s.call.slot slot) 65535 facts.calls (λ k d within. (sound.calls.ages k d within).1)
 
 pub waited_before : (plan : Settings) (facts : Facts) (r : ℕ) → IsSound plan facts → waited_of facts.asks r ≤ 65535
-waited_before plan facts r sound = found_within (λ (a : ActiveAsk). a.waited) (λ (a : ActiveAsk). a.ask.source == r) 65535 facts.asks sound.waits
+waited_before plan facts r sound = found_within (λ (a : ActiveAsk). a.waited) (λ (a : ActiveAsk). a.ask.source == r) 65535 facts.asks sound.asks.waits
 
 -- an event that is neither a Tick nor an opener
 no_tick : (o : Option ℕ) (t : ℕ) → Says o (min 65535 t) → Says o (min 65535 (0 + t))

@@ -84,13 +84,13 @@ clear_few plan now call p h stands =
     let copies : List Act = replicate plan.clear_copies (Queue call.slot (Clear (lpcn_of plan plan.control) call.group call.target plan.tsi)) in
     plain_few plan (Ended call.slot) copies 4 0 4 refl refl
     (few-within plan copies plan.clear_copies 0 plan.clear_copies 4 0 4
-    (copies_elsewhere plan.clear_copies plan call.slot (Clear (lpcn_of plan plan.control) call.group call.target plan.tsi) (h.payload call.slot (call_is_active now.calls call.slot call stands).0).apart) p.few_clears (omega arith) p.few_clears)
+    (copies_elsewhere plan.clear_copies plan call.slot (Clear (lpcn_of plan plan.control) call.group call.target plan.tsi) (h.calls.payload call.slot (call_is_active now.calls call.slot call stands).0).apart) p.few_clears (omega arith) p.few_clears)
 
 close_few : (plan : Settings) (now : Facts) (r : ℕ) → KnowsPlan plan → IsSound plan now → AreFewActs plan (close plan now r) 5 1 4
 unfolding close
 close_few plan now r p h =
     let calls : (call : Call) → call_of now.calls r ≡ Some call → AreFewActs plan (clear plan call) 5 1 4 =
-    λ call k. few-within plan (clear plan call) 5 0 4 5 1 4 (clear_few plan now call p h (found_is_active (λ s. is_party r s.call.group s.call.source s.call.target) now.calls call h.apart k)) (omega arith) (omega arith) (omega arith) in
+    λ call k. few-within plan (clear plan call) 5 0 4 5 1 4 (clear_few plan now call p h (found_is_active (λ s. is_party r s.call.group s.call.source s.call.target) now.calls call h.calls.apart k)) (omega arith) (omega arith) (omega arith) in
     let asks : (q : ℕ) → AreFewActs plan (AskOver q ∷ []) 5 1 4 = λ q. few-within plan (AskOver q ∷ []) 1 0 0 5 1 4 (plain_few plan (AskOver q) [] 0 0 0 refl refl (none_few plan 0 0 0)) (omega arith) (omega arith) (omega arith) in
     let lines : (q : ℕ) → AreFewActs plan (Unlined q ∷ []) 5 1 4 = λ q. few-within plan (Unlined q ∷ []) 1 0 0 5 1 4 (plain_few plan (Unlined q) [] 0 0 0 refl refl (none_few plan 0 0 0)) (omega arith) (omega arith) (omega arith) in
     let asks_to : (q s t reason : ℕ) → AreFewActs plan (AskOver q ∷ ack plan s t reason) 5 1 4 = λ q s t reason. few-within plan (AskOver q ∷ ack plan s t reason) 2 1 0 5 1 4 (plain_few plan (AskOver q) (ack plan s t reason) 1 1 0 refl refl (one_few plan _)) (omega arith) (omega arith) (omega arith) in
@@ -205,7 +205,7 @@ ended_few plan now p h =
     let none : AreFewActs plan [] 5 0 4 = none_few plan 5 0 4 in
     by_option (λ acts. AreFewActs plan acts 5 0 4) (λ (slot : Slot). option_map_or (λ (call : Call). clear plan call) (call_on now.calls slot) []) (due_call plan.hang plan.maximum now.calls) []
     (λ slot e. by_option (λ acts. AreFewActs plan acts 5 0 4) (λ (call : Call). clear plan call) (call_on now.calls slot) []
-    (λ call k. clear_few plan now call p h (found_is_active (λ s. is_slot s.call.slot slot) now.calls call h.apart k)) none) none
+    (λ call k. clear_few plan now call p h (found_is_active (λ s. is_slot s.call.slot slot) now.calls call h.calls.apart k)) none) none
 
 if_few : (plan : Settings) (b : Bool) (acts : List Act) (m n k : ℕ) → AreFewActs plan acts m n k → AreFewActs plan (if b then acts else []) m n k
 if_few plan true acts m n k h = h
@@ -239,7 +239,7 @@ commanded_few plan now (Drop r) p h =
 commanded_few plan now (End c s) p h =
     let slot : Slot = record { carrier = c; slot = s } in
     by_end (λ acts. AreFewActs plan acts 13 5 4) (has_carrier plan c) (λ (call : Call). clear plan call) (call_on now.calls slot) (none_few plan 13 5 4)
-    (λ call k. few-within plan (clear plan call) 5 0 4 13 5 4 (clear_few plan now call p h (found_is_active (λ s. is_slot s.call.slot slot) now.calls call h.apart k)) (omega arith) (omega arith) (omega arith))
+    (λ call k. few-within plan (clear plan call) 5 0 4 13 5 4 (clear_few plan now call p h (found_is_active (λ s. is_slot s.call.slot slot) now.calls call h.calls.apart k)) (omega arith) (omega arith) (omega arith))
 commanded_few plan now _ p h = none_few plan 13 5 4
 
 -- the limits of the answer to each event

@@ -103,7 +103,7 @@ individual_may : (plan : Settings) (now : Facts) (q : Request) → KnowsPlan pla
 unfolding acts_for_individual_request
 individual_may plan now q p h up room registered =
     let own : (call : Call) → own_call now.calls q.source q.target ≡ Some call → AllMayDo plan now (grant plan call false) =
-    λ call k. grant_may plan now call false h up (found_is_active (λ s. (s.call.source == q.source) && (not s.call.group && (s.call.target == q.target))) now.calls call h.apart k) (omega (arith, p.few_grants)) in
+    λ call k. grant_may plan now call false h up (found_is_active (λ s. (s.call.source == q.source) && (not s.call.group && (s.call.target == q.target))) now.calls call h.calls.apart k) (omega (arith, p.few_grants)) in
     let ask : Ask = record { source = q.source; target = q.target; options = q.options; attempt = 1 } in
     let asked : (q.target == q.source) ≡ false → is_registered now q.target ≡ true → is_engaged now q.source ≡ false → is_engaged now q.target ≡ false → nat_lt (length now.asks) 32 ≡ true → AllMayDo plan now (Asked ask ∷ ack plan q.source q.target 0xE0 ++ ahoy plan ask) =
     λ apart also free idle few. asked_may plan now ask p h up room apart registered also free idle few in
@@ -116,8 +116,8 @@ new_call_same plan now r l = refl
 
 asking_engage : (plan : Settings) (now : Facts) (a : ActiveAsk) (test : ActiveAsk → Bool) → IsSound plan now → find test now.asks ≡ Some a → MayEngage plan (facts_after_act now (AskOver a.ask.source)) (others_than a.ask.source now.asks) false a.ask.source a.ask.target
 asking_engage plan now a test h found = record {
-  parties = λ r k. h.parties r (omega (arith, total_some (engagements_in_ask r) test now.asks a found));
-  once = λ r. omega (arith, h.once r, total_found (engagements_in_ask r) test (λ x. not (x.ask.source == a.ask.source)) now.asks a found (not_itself a.ask.source));
+  parties = λ r k. h.radios.parties r (omega (arith, total_some (engagements_in_ask r) test now.asks a found));
+  once = λ r. omega (arith, h.radios.once r, total_found (engagements_in_ask r) test (λ x. not (x.ask.source == a.ask.source)) now.asks a found (not_itself a.ask.source));
   listed = λ g. cc;
 }
 
@@ -216,7 +216,7 @@ control_apart plan now there h on = apart_from plan now (control_slot plan) ther
 call_clears : (plan : Settings) (now : Facts) (call : Call) → KnowsPlan plan → IsSound plan now → call_on now.calls call.slot ≡ Some call → Clears plan now (clear plan call)
 call_clears plan now call p h stands =
     let on = call_is_active now.calls call.slot call stands in
-    let small : call.slot.slot < 2 = (h.payload call.slot on.0).small in
+    let small : call.slot.slot < 2 = (h.calls.payload call.slot on.0).small in
     let later : Facts = fold facts_after_act now (clear plan call) in
     let c : IsCleared plan now later call = cleared_is plan now call small in
     let control : outbox later (control_slot plan) ≡ outbox now (control_slot plan) = c.others (control_slot plan) (omega arith) (control_apart plan now call.slot h on.0) in
@@ -246,7 +246,7 @@ unfolding acts_for_due_call
 ended_clears plan now p h =
     by_option (Clears plan now) (λ (slot : Slot). option_map_or (λ (call : Call). clear plan call) (call_on now.calls slot) []) (due_call plan.hang plan.maximum now.calls) []
     (λ slot e. by_option (Clears plan now) (λ (call : Call). clear plan call) (call_on now.calls slot) []
-    (λ call k. call_clears plan now call p h (found_is_active (λ s. is_slot s.call.slot slot) now.calls call h.apart k)) (none_clears plan now)) (none_clears plan now)
+    (λ call k. call_clears plan now call p h (found_is_active (λ s. is_slot s.call.slot slot) now.calls call h.calls.apart k)) (none_clears plan now)) (none_clears plan now)
 
 -- the first line's parties
 total_first : {X : Type 0} (f : X → ℕ) (q : X → Bool) (xs : List X) (y : X) → slice_get xs 0 ≡ Some y → q y ≡ false → total f (filter q xs) + f y ≤ total f xs
@@ -266,9 +266,9 @@ first_any p (x ∷ xs) y h k = let same : x ≡ y = cc in rw (same, k) refl
 
 line_engage : (plan : Settings) (now : Facts) (l : Line) → IsSound plan now → first_line now.lines ≡ Some l → MayEngage plan (facts_after_act now (Unlined l.source)) now.asks l.group l.source l.target
 line_engage plan now l h found = record {
-  parties = λ r k. h.parties r (omega (arith, first_counts (engagements_in_line r) now.lines l found));
-  once = λ r. omega (arith, h.once r, total_first (engagements_in_line r) (λ x. not (x.source == l.source)) now.lines l found (not_itself l.source));
-  listed = λ g. h.lined l.target (first_any (λ x. x.group && (x.target == l.target)) now.lines l found (rw (g, equal_itself l.target) refl));
+  parties = λ r k. h.radios.parties r (omega (arith, first_counts (engagements_in_line r) now.lines l found));
+  once = λ r. omega (arith, h.radios.once r, total_first (engagements_in_line r) (λ x. not (x.source == l.source)) now.lines l found (not_itself l.source));
+  listed = λ g. h.lines.listed l.target (first_any (λ x. x.group && (x.target == l.target)) now.lines l found (rw (g, equal_itself l.target) refl));
 }
 
 has_line : (plan : Settings) (now : Facts) (l : Line) → IsSound plan now → first_line now.lines ≡ Some l → is_up now plan.control ≡ true
@@ -279,7 +279,7 @@ has_line plan now l h found = either (is_up now plan.control) refl
 
     either : (b : Bool) → is_up now plan.control ≡ b → b ≡ true
     either true e = refl
-    either false e = let k : Some l ≡ None = none now.lines (h.lines e) found in cc
+    either false e = let k : Some l ≡ None = none now.lines (h.lines.none e) found in cc
 
 served_may : (plan : Settings) (now later : Facts) (call : Call) → KnowsPlan plan → IsSound plan later → IsReady plan now later 1 → length (outbox now (control_slot plan)) ≤ 56 → first_line now.lines ≡ Some (record { source = call.source; target = call.target; group = call.group }) → lowest_free plan now ≡ Some call.slot → AllMayDo plan later (Unlined call.source ∷ begin plan call)
 served_may plan now later call p h ready room line found =
@@ -344,7 +344,7 @@ has_ask plan now a h found = either (is_up now plan.control) refl
 
     either : (b : Bool) → is_up now plan.control ≡ b → b ≡ true
     either true e = refl
-    either false e = let k : Some a ≡ None = none now.asks (h.asks e) found in cc
+    either false e = let k : Some a ≡ None = none now.asks (h.asks.none e) found in cc
 
 first_of : (f : ActiveAsk → ℕ) (xs : List ActiveAsk) (y : ActiveAsk) → slice_get xs 0 ≡ Some y → f y ≤ total f xs
 first_of f [] y h = cc
@@ -355,10 +355,10 @@ again_repeats plan later a n p h room found =
     let ask : Ask = record { source = a.ask.source; target = a.ask.target; options = a.ask.options; attempt = n } in
     let up : is_up later plan.control ≡ true = has_ask plan later a h found in
     let gone : (λ (x : ActiveAsk). not (x.ask.source == a.ask.source)) a ≡ false = not_itself a.ask.source in
-    let less : length (others_than a.ask.source later.asks) < 32 = omega (arith, h.few_asks, first_less (λ x. not (x.ask.source == a.ask.source)) later.asks a found gone) in
+    let less : length (others_than a.ask.source later.asks) < 32 = omega (arith, h.asks.few, first_less (λ x. not (x.ask.source == a.ask.source)) later.asks a found gone) in
     let engage : MayEngage plan later (others_than a.ask.source later.asks) false a.ask.source a.ask.target = record {
-      parties = λ r k. h.parties r (omega (arith, first_of (engagements_in_ask r) later.asks a found));
-      once = λ r. omega (arith, h.once r, total_first (engagements_in_ask r) (λ x. not (x.ask.source == a.ask.source)) later.asks a found gone);
+      parties = λ r k. h.radios.parties r (omega (arith, first_of (engagements_in_ask r) later.asks a found));
+      once = λ r. omega (arith, h.radios.once r, total_first (engagements_in_ask r) (λ x. not (x.ask.source == a.ask.source)) later.asks a found gone);
       listed = λ g. cc;
     } in
     let may : MayDo plan later (Asked ask) = (up, less, engage) in
@@ -476,7 +476,7 @@ dropped_may plan now r p h room =
     may-append plan (close plan now r) (Left r ∷ []) now c.may (c.closed.gone, tt)
 
 ended_may : (plan : Settings) (now : Facts) (slot : Slot) (call : Call) → KnowsPlan plan → IsSound plan now → call_on now.calls slot ≡ Some call → AllMayDo plan now (clear plan call)
-ended_may plan now slot call p h k = clear_may plan now call p h (found_is_active (λ s. is_slot s.call.slot slot) now.calls call h.apart k)
+ended_may plan now slot call p h k = clear_may plan now call p h (found_is_active (λ s. is_slot s.call.slot slot) now.calls call h.calls.apart k)
 
 commanded_may : (plan : Settings) (now : Facts) (command : Command) → KnowsPlan plan → IsSound plan now → AllMayDo plan (facts_after_event plan now (Say command)) (answer_to_command plan now command).list
 unfolding answer_to_command

@@ -106,7 +106,7 @@ counts plan facts (entry ∷ earlier) p h legal up k small =
     let sound : IsSound plan now = sound_after plan facts earlier (plan_known plan p) h legal.1 in
     let up_then : slice_index_or (up_by_event plan now.up entry.event) plan.control false ≡ true = ap (λ (xs : List Bool). slice_index_or xs plan.control false) (sym (same_after entry.acts.list (up_by_event plan now.up entry.event))) ∙ up in
     ap (λ (xs : List ℕ). min 15 (sum (take (k + 1) xs))) (same_after entry.acts.list (noise_by_event plan now.noise entry.event))
-    ∙ one_event plan now entry.event (noises_within plan facts.noise earlier) sound.window (λ was j few. counts plan facts earlier p h legal.1 was j few) k small up_then
+    ∙ one_event plan now entry.event (noises_within plan facts.noise earlier) sound.access.window (λ was j few. counts plan facts earlier p h legal.1 was j few) k small up_then
 
 whole : (xs : List ℕ) (n : ℕ) → length xs ≤ n → take n xs ≡ xs
 whole [] zero h = refl
@@ -118,7 +118,7 @@ pub backoff_counts : (plan : Settings) (facts : Facts) (journal : List Entry) �
 backoff_counts plan facts journal p h legal up =
     let noise : List ℕ = (facts_after plan facts journal).noise in
     let sound : IsSound plan (facts_after plan facts journal) = sound_after plan facts journal (plan_known plan p) h legal in
-    let all : length noise ≡ 32 = sound.window up in
+    let all : length noise ≡ 32 = sound.access.window up in
     let same : sum (take 32 noise) ≡ sum noise = ap (λ (xs : List ℕ). sum xs) (whole noise 32 (omega arith)) in
     let kept : min 15 (sum (take 32 noise)) ≡ min 15 (recent_noises plan facts.noise journal) = counts plan facts journal p h legal up 31 (omega arith) in
     let high : plan.backoff_high ≤ 15 = p.backoff_high.1 in

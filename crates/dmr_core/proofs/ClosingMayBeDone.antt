@@ -139,14 +139,14 @@ pub record Closes (plan : Settings) (now : Facts) (r : ℕ) (acts : List Act) : 
   pub closed : IsClosed plan now (fold facts_after_act now acts) r
 
 control_apart : (plan : Settings) (now : Facts) (call : Call) → IsSound plan now → has_call_on now.calls call.slot ≡ true → is_slot (control_slot plan) call.slot ≡ false
-control_apart plan now call h on = same_slots (control_slot plan) call.slot ∙ (h.payload call.slot on).apart
+control_apart plan now call h on = same_slots (control_slot plan) call.slot ∙ (h.calls.payload call.slot on).apart
 
 call_closes : (plan : Settings) (now : Facts) (r : ℕ) (call : Call) → KnowsPlan plan → IsSound plan now → call_of now.calls r ≡ Some call → Closes plan now r (clear plan call)
 call_closes plan now r call p h found =
     let test : ActiveCall → Bool = λ s. is_party r s.call.group s.call.source s.call.target in
-    let stands : call_on now.calls call.slot ≡ Some call = found_is_active test now.calls call h.apart found in
+    let stands : call_on now.calls call.slot ≡ Some call = found_is_active test now.calls call h.calls.apart found in
     let on = call_is_active now.calls call.slot call stands in
-    let small : call.slot.slot < 2 = (h.payload call.slot on.0).small in
+    let small : call.slot.slot < 2 = (h.calls.payload call.slot on.0).small in
     let c : IsCleared plan now (fold facts_after_act now (clear plan call)) call = cleared_is plan now call small in
     let s = found_call test (find test now.calls) call found in
     let one : 1 ≤ engagements_in_call r s.0 = counts r s.0.call.group s.0.call.source s.0.call.target (find_passes test now.calls s.0 s.1) in
@@ -157,7 +157,7 @@ call_closes plan now r call p h found =
       closed = record {
         up = c.up;
         registered = c.registered;
-        gone = rw (c.calls, c.asks, c.lines) (omega (arith, h.once r));
+        gone = rw (c.calls, c.asks, c.lines) (omega (arith, h.radios.once r));
         room = rw (c.others (control_slot plan) (omega arith) (control_apart plan now call h on.0)) (omega arith);
       };
     }
@@ -173,7 +173,7 @@ line_closes plan now r l h found =
     let less : total (engagements_in_line r) (filter (λ x. not (x.source == l.source)) now.lines) + engagements_in_line r l ≤ total (engagements_in_line r) now.lines =
     total_found (engagements_in_line r) (λ x. x.source == r) (λ x. not (x.source == l.source)) now.lines l found (not_itself l.source) in
     let one : 1 ≤ engagements_in_line r l = line_counts r l (find_passes (λ x. x.source == r) now.lines l found) in
-    record { may = (tt, tt); closed = record { up = refl; registered = refl; gone = omega (arith, h.once r); room = omega arith } }
+    record { may = (tt, tt); closed = record { up = refl; registered = refl; gone = omega (arith, h.radios.once r); room = omega arith } }
 
 -- if there is an ask or a line, the control carrier is up
 found_up : {X : Type 0} (plan : Settings) (now : Facts) (test : X → Bool) (xs : List X) (x : X) → (is_up now plan.control ≡ false → xs ≡ []) → find test xs ≡ Some x → is_up now plan.control ≡ true
@@ -188,7 +188,7 @@ found_up {X = X} plan now test xs x h found = either (is_up now plan.control) re
 
 line_to_closes : (plan : Settings) (now : Facts) (r : ℕ) (l : Line) → KnowsPlan plan → IsSound plan now → length (outbox now (control_slot plan)) ≤ 56 → line_to now.lines r ≡ Some l → Closes plan now r (Unlined l.source ∷ ack plan l.source l.target 0x24)
 line_to_closes plan now r l p h room found =
-    let up : is_up now plan.control ≡ true = found_up plan now (λ (x : Line). not x.group && (x.target == r)) now.lines l h.lines found in
+    let up : is_up now plan.control ≡ true = found_up plan now (λ (x : Line). not x.group && (x.target == r)) now.lines l h.lines.none found in
     let test : Line → Bool = λ x. not x.group && (x.target == r) in
     let less : total (engagements_in_line r) (filter (λ x. not (x.source == l.source)) now.lines) + engagements_in_line r l ≤ total (engagements_in_line r) now.lines =
     total_found (engagements_in_line r) test (λ x. not (x.source == l.source)) now.lines l found (not_itself l.source) in
@@ -199,7 +199,7 @@ line_to_closes plan now r l p h room found =
       closed = record {
         up = refl;
         registered = refl;
-        gone = omega (arith, h.once r);
+        gone = omega (arith, h.radios.once r);
         room = omega (arith, read_put now.outboxes (place (control_slot plan)) (box now.outboxes (control_slot plan) ++ pdu ∷ []), length-append (box now.outboxes (control_slot plan)) (pdu ∷ []));
       };
     }
@@ -215,11 +215,11 @@ asking_closes plan now r a h found =
     let less : total (engagements_in_ask r) (others_than a.ask.source now.asks) + engagements_in_ask r a ≤ total (engagements_in_ask r) now.asks =
     total_found (engagements_in_ask r) (λ x. x.ask.source == r) (λ x. not (x.ask.source == a.ask.source)) now.asks a found (not_itself a.ask.source) in
     let one : 1 ≤ engagements_in_ask r a = ask_counts r a (find_passes (λ x. x.ask.source == r) now.asks a found) in
-    record { may = (tt, tt); closed = record { up = refl; registered = refl; gone = omega (arith, h.once r); room = omega arith } }
+    record { may = (tt, tt); closed = record { up = refl; registered = refl; gone = omega (arith, h.radios.once r); room = omega arith } }
 
 asking_to_closes : (plan : Settings) (now : Facts) (r : ℕ) (a : ActiveAsk) → KnowsPlan plan → IsSound plan now → length (outbox now (control_slot plan)) ≤ 56 → find (λ x. x.ask.target == r) now.asks ≡ Some a → Closes plan now r (AskOver a.ask.source ∷ ack plan a.ask.source a.ask.target 0x24)
 asking_to_closes plan now r a p h room found =
-    let up : is_up now plan.control ≡ true = found_up plan now (λ (x : ActiveAsk). x.ask.target == r) now.asks a h.asks found in
+    let up : is_up now plan.control ≡ true = found_up plan now (λ (x : ActiveAsk). x.ask.target == r) now.asks a h.asks.none found in
     let less : total (engagements_in_ask r) (others_than a.ask.source now.asks) + engagements_in_ask r a ≤ total (engagements_in_ask r) now.asks =
     total_found (engagements_in_ask r) (λ x. x.ask.target == r) (λ x. not (x.ask.source == a.ask.source)) now.asks a found (not_itself a.ask.source) in
     let one : 1 ≤ engagements_in_ask r a = ask_to_counts r a (find_passes (λ x. x.ask.target == r) now.asks a found) in
@@ -229,7 +229,7 @@ asking_to_closes plan now r a p h room found =
       closed = record {
         up = refl;
         registered = refl;
-        gone = omega (arith, h.once r);
+        gone = omega (arith, h.radios.once r);
         room = omega (arith, read_put now.outboxes (place (control_slot plan)) (box now.outboxes (control_slot plan) ++ pdu ∷ []), length-append (box now.outboxes (control_slot plan)) (pdu ∷ []));
       };
     }

@@ -69,7 +69,7 @@ not_there plan now c slot h down k = either (slot.carrier == c) refl
     either : (b : Bool) → (slot.carrier == c) ≡ b → b ≡ false
     either true e =
         let same : slot.carrier ≡ c = equal_numbers slot.carrier c e in
-        let up : is_up now slot.carrier ≡ true = (h.payload slot k).is_up in
+        let up : is_up now slot.carrier ≡ true = (h.calls.payload slot k).is_up in
         true_false _ up (subst (λ (n : ℕ). is_up now n ≡ false) (sym same) down)
     either false e = refl
 
@@ -77,7 +77,7 @@ none_there : (plan : Settings) (now : Facts) (slot : Slot) → IsSound plan now 
 none_there plan now slot h down = either (has_call_on now.calls slot) refl
   where
     either : (b : Bool) → has_call_on now.calls slot ≡ b → b ≡ false
-    either true e = true_false _ (h.payload slot e).is_up down
+    either true e = true_false _ (h.calls.payload slot e).is_up down
     either false e = refl
 
 -- a carrier that the plan does not have is not up
@@ -85,7 +85,7 @@ unknown_down : (plan : Settings) (now : Facts) (c : ℕ) → IsSound plan now �
 unknown_down plan now c h none = either (is_up now c) refl
   where
     either : (b : Bool) → is_up now c ≡ b → b ≡ false
-    either true e = true_false _ (h.known c e) none
+    either true e = true_false _ (h.pool.known c e) none
     either false e = refl
 
 -- facts, field by field
@@ -126,22 +126,22 @@ same_noted plan now (Up c) p h none =
     let down : is_up now c ≡ false = unknown_down plan now c h none in
     same_facts (facts_after_event plan now (Up c)) now (rw none refl) refl (rw other refl) (rw other refl)
     (same_calls now.calls c (λ slot k. not_there plan now c slot h down k))
-    (both_boxes now.outboxes c (λ n small. h.down (record { carrier = c; slot = n }) small down)) (rw other refl) refl (rw other refl) (rw other refl)
+    (both_boxes now.outboxes c (λ n small. h.pool.down (record { carrier = c; slot = n }) small down)) (rw other refl) refl (rw other refl) (rw other refl)
 same_noted plan now (Lost c) p h none =
     same_facts (facts_after_event plan now (Lost c)) now (same_up now.up c none) refl
-    (none_or (c == plan.control) now.asks (λ e. h.asks (down_too plan now c none e)))
-    (none_or (c == plan.control) now.lines (λ e. h.lines (down_too plan now c none e)))
+    (none_or (c == plan.control) now.asks (λ e. h.asks.none (down_too plan now c none e)))
+    (none_or (c == plan.control) now.lines (λ e. h.lines.none (down_too plan now c none e)))
     (same_calls now.calls c (λ slot k. not_there plan now c slot h none k))
-    (both_boxes now.outboxes c (λ n small. h.down (record { carrier = c; slot = n }) small none))
-    (none_or (c == plan.control) now.noise (λ e. h.noiseless (down_too plan now c none e))) refl
-    (zero_or (c == plan.control) now.fills (λ e. h.unfilled (down_too plan now c none e)))
-    (unnamed_or (c == plan.control) now.late (λ e. h.unnamed (down_too plan now c none e)))
+    (both_boxes now.outboxes c (λ n small. h.pool.down (record { carrier = c; slot = n }) small none))
+    (none_or (c == plan.control) now.noise (λ e. h.access.noiseless (down_too plan now c none e))) refl
+    (zero_or (c == plan.control) now.fills (λ e. h.access.unfilled (down_too plan now c none e)))
+    (unnamed_or (c == plan.control) now.late (λ e. h.access.unnamed (down_too plan now c none e)))
 same_noted plan now (Noise slot) p h none =
-    same_facts (facts_after_event plan now (Noise slot)) now refl refl refl refl refl refl (noise_or (is_control plan slot) now.noise (λ e. h.noiseless (slot_down plan now slot none e))) refl refl refl
+    same_facts (facts_after_event plan now (Noise slot)) now refl refl refl refl refl refl (noise_or (is_control plan slot) now.noise (λ e. h.access.noiseless (slot_down plan now slot none e))) refl refl refl
 same_noted plan now (Active slot) p h none =
     same_facts (facts_after_event plan now (Active slot)) now refl refl refl refl (same_marked now.calls slot (none_there plan now slot h none)) refl refl refl refl refl
 same_noted plan now (Poll c) p h none =
-    same_facts (facts_after_event plan now (Poll c)) now refl refl refl refl refl refl (poll_or (c == plan.control) now.noise (λ e. h.noiseless (down_too plan now c none e))) refl refl refl
+    same_facts (facts_after_event plan now (Poll c)) now refl refl refl refl refl refl (poll_or (c == plan.control) now.noise (λ e. h.access.noiseless (down_too plan now c none e))) refl refl refl
 same_noted plan now (Heard slot pdu) p h none = refl
 same_noted plan now Tick p h none = elim none [ ]
 same_noted plan now (Say command) p h none = elim none [ ]

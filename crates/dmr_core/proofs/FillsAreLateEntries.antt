@@ -4,35 +4,34 @@ use Rattle.std.specs.Prelude.{Option, Some, None, IfSome, ◌&&◌, not, is_some
 use Rattle.dmr_pdu.specs.declared.slots.Slot.{Slot}
 use Rattle.dmr_pdu.specs.declared.pdu.Pdu.{Pdu}
 use Rattle.dmr_plan.specs.declared.settings.Settings.{Settings}
-use Rattle.dmr_access.specs.Fill.{aloha_pdu, fill_of, is_late_due}
+use Rattle.dmr_access.specs.Fill.{aloha_pdu, fill_of, is_late_due, next_fill_count}
 use Rattle.dmr_calls.specs.declared.call.Call.{Call}
 use Rattle.dmr_calls.specs.declared.call.ActiveCall.{ActiveCall}
 use Rattle.dmr_calls.specs.Calls.{call_on}
 use Rattle.dmr_calls.proofs.Laws.{next_is_active}
 use Rattle.dmr_pool.specs.Free.{control_slot}
 use Rattle.dmr_core.specs.declared.event.Event.TheVariants.{Poll}
-use Rattle.dmr_core.specs.declared.act.Act.{Act}
+use Rattle.dmr_core.specs.declared.named.NamedSlot.{NamedSlot}
 use Rattle.dmr_core.specs.declared.act.Act.TheVariants.{Fill}
-use Rattle.dmr_core.specs.Facts.{Facts, facts_after_act, facts_after_event}
+use Rattle.dmr_core.specs.Facts.{Facts, facts_after_event}
 use Rattle.dmr_core.specs.Late.{last_slot, next_call}
 use Rattle.dmr_core.specs.Words.{is_up}
 use Rattle.dmr_core.specs.Rules.{grant_pdu, late_entry}
-use Rattle.dmr_core.specs.Sound.{IsSound, is_grant}
+use Rattle.dmr_core.specs.Sound.{IsAccessSound, is_grant}
 use Rattle.dmr_core.specs.May.{MayDo, MayName, late_entry_of_fill}
 use Rattle.dmr_core.specs.Turns.{IsLateOf}
 use Rattle.dmr_core.proofs.SlotsStaySound.{true_false}
 
-pub counted-done : (plan : Settings) (now : Facts) (act : Act) → IsSound plan now → (facts_after_act now act).fills < 4
-counted-done plan now (Fill slot pdu) h = omega arith
-counted-done plan now act h = h.counted
-
-pub unfilled-done : (plan : Settings) (now : Facts) (act : Act) → IsSound plan now → MayDo plan now act → is_up now plan.control ≡ false → (facts_after_act now act).fills ≡ 0
-unfilled-done plan now (Fill slot pdu) h may down = true_false _ may.up down
-unfilled-done plan now act h may down = h.unfilled down
-
-pub unnamed-done : (plan : Settings) (now : Facts) (act : Act) → IsSound plan now → MayDo plan now act → is_up now plan.control ≡ false → (facts_after_act now act).late ≡ None
-unnamed-done plan now (Fill slot pdu) h may down = true_false _ may.up down
-unnamed-done plan now act h may down = h.unnamed down
+-- Fills are counted and late entries noted only while the control carrier is up
+pub access-filled : (up : Bool) (noise : List ℕ) (fills : ℕ) (late named : Option NamedSlot) → up ≡ true → IsAccessSound up noise fills late
+    → IsAccessSound up noise (next_fill_count fills) named
+access-filled up noise fills late named is_up h = record {
+  noiseless = h.noiseless;
+  window = h.window;
+  counted = omega arith;
+  unfilled = λ down. true_false _ is_up down;
+  unnamed = λ down. true_false _ is_up down;
+}
 
 -- a talkgroup's grant is a grant
 pub late_grant : (plan : Settings) (call : Call) → is_grant (grant_pdu plan call true) ≡ true

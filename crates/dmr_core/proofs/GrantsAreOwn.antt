@@ -1,26 +1,30 @@
--- A waiting grant is that of the call on its slot, after each act.
-use Rattle.std.proofs.Common.{◌≡◌, ◌<◌, List, [], ◌∷◌, ◌++◌, Bool, true, false, refl, sym, ◌∙◌, ap, subst, arith, filter, ◌⊎◌, inl, inr}
-use Rattle.std.specs.Prelude.{Some, None, if◌then◌else◌, cond, ◌&&◌, not, find, ◌==◌, ◌||◌, option_map}
+-- The calls after each act: a waiting grant is that of the call on its slot.
+use Rattle.std.proofs.Common.{◌≡◌, List, [], ◌∷◌, ◌++◌, Bool, true, false, refl, sym, ◌∙◌, ap, subst, arith, filter, length, ◌⊎◌, inl, inr}
+use Rattle.std.specs.Prelude.{Option, Some, None, if◌then◌else◌, cond, ◌&&◌, not, find, is_some, ◌==◌, ◌||◌, option_map}
 use Rattle.std.specs.List.{list_any, list_all}
+use Rattle.std.proofs.lemmas.List.{length-append}
+use Rattle.std.proofs.lemmas.List.Elements.{All-filter, All-push}
 use Rattle.dmr_pdu.specs.declared.slots.Slot.{Slot}
 use Rattle.dmr_pdu.specs.declared.pdu.Pdu.{Pdu}
 use Rattle.dmr_pdu.specs.declared.pdu.Pdu.TheVariants.{PvGrant, TvGrant}
 use Rattle.dmr_plan.specs.declared.settings.Settings.{Settings}
 use Rattle.dmr_calls.specs.declared.call.Call.{Call}
 use Rattle.dmr_calls.specs.declared.call.ActiveCall.{ActiveCall}
-use Rattle.dmr_calls.specs.Calls.{call_on, is_slot}
+use Rattle.dmr_calls.specs.Calls.{call_on, is_slot, just_begun}
 use Rattle.dmr_pool.specs.Free.{control_slot, names}
-use Rattle.dmr_core.specs.declared.act.Act.{Act}
-use Rattle.dmr_core.specs.declared.act.Act.TheVariants.{Began, Ended, Queue, Send}
-use Rattle.dmr_core.specs.Facts.{Facts, facts_after_act, has_carrier}
+use Rattle.dmr_core.specs.Facts.{Facts, has_carrier}
 use Rattle.dmr_core.specs.Words.{lpcn_of, outbox, has_call_on}
 use Rattle.dmr_core.specs.Rules.{grant_pdu}
-use Rattle.dmr_core.specs.Sound.{AreOnDistinctSlots, IsSound, is_grant, is_own}
-use Rattle.dmr_core.specs.May.{MayDo, MayName}
+use Rattle.dmr_core.specs.Sound.{AreCallsSound, AreOnDistinctSlots, IsPayload, IsSound, has_group_call, is_grant, is_own}
+use Rattle.dmr_core.specs.May.{MayBegin, MayName}
 use Rattle.dmr_core.proofs.PlanLemmas.{KnowsPlan}
 use Rattle.dmr_core.proofs.NumberLemmas.{equal_itself, equal_numbers}
+use Rattle.dmr_core.proofs.ListLemmas.{any_before, any-push, length-filter_le}
+use Rattle.dmr_core.proofs.CallsAreApart.{apart-append, apart-filter}
 use Rattle.dmr_core.proofs.ChoiceLemmas.{or_false, and_true}
-use Rattle.dmr_core.proofs.SlotsStaySound.{same_slot, itself, after_put, within_boxes, free_is, all-drop, all_more, true_false}
+use Rattle.dmr_core.proofs.ConsoleLemmas.{called}
+use Rattle.dmr_core.proofs.SlotsStaySound.{same_slot, itself, active_there, IsFree, free_is, true_false}
+use Rattle.dmr_core.proofs.LimitsAreKept.{IsCounted, listed_or}
 
 -- the call that is found is active there
 pub call_is_active : (cs : List ActiveCall) (slot : Slot) (call : Call) → call_on cs slot ≡ Some call → (has_call_on cs slot ≡ true) × (call.slot ≡ slot)
@@ -133,7 +137,7 @@ own_of plan now slot call other late p h here there = either ((lpcn_of plan othe
         let on = call_is_active now.calls slot call here in
         let on_other = call_is_active now.calls other.slot other there in
         let carriers : other.slot.carrier ≡ call.slot.carrier =
-        p.channels _ _ (h.payload other.slot on_other.0).known (subst (λ (x : Slot). has_carrier plan x.carrier ≡ true) (sym on.1) (h.payload slot on.0).known) (equal_numbers _ _ parts.0) in
+        p.channels _ _ (h.calls.payload other.slot on_other.0).known (subst (λ (x : Slot). has_carrier plan x.carrier ≡ true) (sym on.1) (h.calls.payload slot on.0).known) (equal_numbers _ _ parts.0) in
         let numbers : other.slot.slot ≡ call.slot.slot = equal_numbers _ _ parts.1 in
         let slots : other.slot ≡ call.slot = λ i. record { carrier = carriers i; slot = numbers i } in
         let both : Some other ≡ Some call = sym there ∙ ap (λ (x : Slot). call_on now.calls x) (slots ∙ on.1) ∙ here in
@@ -145,26 +149,54 @@ pub named_own : (plan : Settings) (now : Facts) (slot there : Slot) (call : Call
 named_own plan now slot there call pdu true p h k e may = rw may.1.is (own_of plan now slot call may.1.call may.1.late p h k may.1.stands)
 named_own plan now slot there call pdu false p h k e may = not_grant_own plan call pdu e
 
-pub control_small : (plan : Settings) → (control_slot plan).slot < 2
-control_small plan = omega arith
+-- the calls after some were removed, by their slots
+pub has_call_on-filter : (q : Slot → Bool) (cs : List ActiveCall) (slot : Slot)
+    → has_call_on (filter (λ s. q s.call.slot) cs) slot ≡ (q slot && has_call_on cs slot)
+has_call_on-filter q cs slot =
+    sym (called (filter (λ s. q s.call.slot) cs) slot) ∙ ap (λ (o : Option Call). is_some o) (call_on-filter q cs slot) ∙ either (q slot)
+  where
+    either : (b : Bool) → is_some (cond b (call_on cs slot) None) ≡ (b && has_call_on cs slot)
+    either true = called cs slot
+    either false = refl
 
-pub own-done : (plan : Settings) (now : Facts) (act : Act) → KnowsPlan plan → IsSound plan now → MayDo plan now act → (slot : Slot) (call : Call) → call_on (facts_after_act now act).calls slot ≡ Some call → list_all (is_own plan call) (outbox (facts_after_act now act) (control_slot plan)) ≡ true
-own-done plan now (Queue there pdu) p h may slot call k =
-    let before : list_all (is_own plan call) (outbox now (control_slot plan)) ≡ true = h.own slot call k in
-    after_put (λ s b. s ≡ control_slot plan → list_all (is_own plan call) b ≡ true) now.outboxes there _ (control_slot plan) may.small (control_small plan)
-    (within_boxes plan now there p h may.up may.small)
-    (λ e. all_more (is_own plan call) (outbox now there) pdu (subst (λ (x : Slot). list_all (is_own plan call) (outbox now x) ≡ true) (sym e) before) (named_own plan now slot there call pdu (is_grant pdu) p h k refl may.names))
-    (λ d e. before) refl
-own-done plan now (Send there pdu) p h may slot call k =
-    let before : list_all (is_own plan call) (outbox now (control_slot plan)) ≡ true = h.own slot call k in
-    after_put (λ s b. s ≡ control_slot plan → list_all (is_own plan call) b ≡ true) now.outboxes there _ (control_slot plan) may.1 (control_small plan)
-    (within_boxes plan now there p h may.0 may.1)
-    (λ e. all-drop (is_own plan call) (outbox now there) (subst (λ (x : Slot). list_all (is_own plan call) (outbox now x) ≡ true) (sym e) before))
-    (λ d e. before) refl
-own-done plan now (Began new) p h may slot call k =
-    elim (call_new now.calls (record { call = new; age = 0; quiet = 0 }) slot call k) [
-      | inl e ↦ h.own slot call e
-      | inr e ↦ subst (λ (x : Call). list_all (is_own plan x) (outbox now (control_slot plan)) ≡ true) e (all_unnamed plan new (outbox now (control_slot plan)) (free_is plan now new.slot may.free).ungranted)
-    ]
-own-done plan now (Ended other) p h may slot call k = h.own slot call (call_after (λ x. not (is_slot x other)) now.calls slot call k)
-own-done plan now act p h may slot call k = h.own slot call k
+pub calls-filter : (plan : Settings) (up : List Bool) (boxes : List (List Pdu)) (q : Slot → Bool) (cs : List ActiveCall)
+    → AreCallsSound plan up boxes cs → AreCallsSound plan up boxes (filter (λ s. q s.call.slot) cs)
+calls-filter plan up boxes q cs h =
+    let was_on : (slot : Slot) → has_call_on (filter (λ s. q s.call.slot) cs) slot ≡ true → has_call_on cs slot ≡ true =
+    λ slot k. any_before (λ s. is_slot s.call.slot slot) (λ s. q s.call.slot) cs k in
+    record {
+      apart = apart-filter (λ s. q s.call.slot) cs h.apart;
+      payload = λ slot k. h.payload slot (was_on slot k);
+      quiet = λ slot k. h.quiet slot (was_on slot k);
+      own = λ slot call k. h.own slot call (call_after q cs slot call k);
+      listed = λ g k. h.listed g (any_before (λ s. s.call.group && (s.call.target == g)) (λ s. q s.call.slot) cs k);
+      few = omega (arith, h.few, length-filter_le (λ s. q s.call.slot) cs);
+      ages = All-filter (λ s. q s.call.slot) IsCounted cs h.ages;
+    }
+
+-- the calls after one more began
+pub calls-begun : (plan : Settings) (now : Facts) (call : Call) → IsSound plan now → MayBegin plan now call
+    → AreCallsSound plan now.up now.outboxes (now.calls ++ just_begun call ∷ [])
+calls-begun plan now call h may =
+    let free : IsFree plan now call.slot = free_is plan now call.slot may.free in
+    let itself : IsPayload plan now.up call.slot = record { known = free.known; is_up = free.up; small = may.small; apart = free.apart } in
+    record {
+      apart = apart-append now.calls (just_begun call) h.calls.apart free.none;
+      payload = λ slot k. elim (active_there now.calls call slot k) [
+        | inl e ↦ h.calls.payload slot e
+        | inr e ↦ subst (IsPayload plan now.up) (sym e) itself
+      ];
+      quiet = λ slot k. elim (active_there now.calls call slot k) [
+        | inl e ↦ h.calls.quiet slot e
+        | inr e ↦ subst (λ (x : Slot). outbox now x ≡ []) (sym e) free.quiet
+      ];
+      own = λ slot other k. elim (call_new now.calls (just_begun call) slot other k) [
+        | inl e ↦ h.calls.own slot other e
+        | inr e ↦ subst (λ (x : Call). list_all (is_own plan x) (outbox now (control_slot plan)) ≡ true) e
+            (all_unnamed plan call (outbox now (control_slot plan)) free.ungranted)
+      ];
+      listed = λ g k. listed_or plan g call.target call.group (has_group_call now.calls g) (h.calls.listed g) may.engage.listed
+          (sym (any-push (λ s. s.call.group && (s.call.target == g)) now.calls (just_begun call)) ∙ k);
+      few = omega (arith, may.few, length-append now.calls (just_begun call ∷ []));
+      ages = All-push IsCounted now.calls (just_begun call) h.calls.ages (omega arith, omega arith);
+    }

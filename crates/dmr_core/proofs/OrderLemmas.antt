@@ -225,7 +225,7 @@ registered_order plan now act sound may = λ all h. order_kept ◌==◌ all now.
 
 pub registered_in_order : (plan : Settings) (facts : Facts) (journal : List Entry) → KnowsPlan plan → IsSound plan facts → IsLegal plan facts journal → IsInOrder ◌==◌ (with_openings joined_by facts.registered journal) (facts_after plan facts journal).registered
 registered_in_order plan facts journal p sound legal =
-    ordered ◌==◌ plan facts (λ (f : Facts). f.registered) joined_by (λ now event all h. h) (order_single ◌==◌ numbers facts.registered (single_radios facts.registered sound.distinct)) journal
+    ordered ◌==◌ plan facts (λ (f : Facts). f.registered) joined_by (λ now event all h. h) (order_single ◌==◌ numbers facts.registered (single_radios facts.registered sound.radios.distinct)) journal
     (throughout plan facts (Orders ◌==◌ (λ (f : Facts). f.registered) joined_by) (registered_order plan) journal p sound legal)
 
 -- asks and lines are of radios that are engaged once
@@ -268,7 +268,7 @@ ask_keeps plan now _ all h = h
 
 pub asks_in_order : (plan : Settings) (facts : Facts) (journal : List Entry) → IsSound plan facts → IsInOrder ◌==◌ (with_openings asked_by (sources_of_asks facts.asks) journal) (sources_of_asks (facts_after plan facts journal).asks)
 asks_in_order plan facts journal sound =
-    let single : Single ◌==◌ (sources_of_asks facts.asks) = single_once (λ (a : ActiveAsk). a.ask.source) engagements_in_ask (λ a. source_counts false a.ask.source a.ask.target) facts.asks (λ r. omega (arith, sound.once r)) in
+    let single : Single ◌==◌ (sources_of_asks facts.asks) = single_once (λ (a : ActiveAsk). a.ask.source) engagements_in_ask (λ a. source_counts false a.ask.source a.ask.target) facts.asks (λ r. omega (arith, sound.radios.once r)) in
     ordered ◌==◌ plan facts (λ (f : Facts). sources_of_asks f.asks) asked_by (ask_keeps plan) (order_single ◌==◌ numbers (sources_of_asks facts.asks) single) journal
     (everywhere plan facts (Orders ◌==◌ (λ (f : Facts). sources_of_asks f.asks) asked_by) ask_order journal)
 
@@ -302,7 +302,7 @@ line_keeps plan now _ all h = h
 
 pub lines_in_order : (plan : Settings) (facts : Facts) (journal : List Entry) → KnowsPlan plan → IsSound plan facts → IsLegal plan facts journal → IsInOrder ◌==◌ (with_openings lined_by (sources_of_lines facts.lines) journal) (sources_of_lines (facts_after plan facts journal).lines)
 lines_in_order plan facts journal p sound legal =
-    let single : Single ◌==◌ (sources_of_lines facts.lines) = single_once (λ (l : Line). l.source) engagements_in_line (λ l. source_counts l.group l.source l.target) facts.lines (λ r. omega (arith, sound.once r)) in
+    let single : Single ◌==◌ (sources_of_lines facts.lines) = single_once (λ (l : Line). l.source) engagements_in_line (λ l. source_counts l.group l.source l.target) facts.lines (λ r. omega (arith, sound.radios.once r)) in
     ordered ◌==◌ plan facts (λ (f : Facts). sources_of_lines f.lines) lined_by (line_keeps plan) (order_single ◌==◌ numbers (sources_of_lines facts.lines) single) journal
     (throughout plan facts (Orders ◌==◌ (λ (f : Facts). sources_of_lines f.lines) lined_by) (line_order plan) journal p sound legal)
 
@@ -345,5 +345,5 @@ call_keeps plan now _ all h = h
 
 pub calls_in_order : (plan : Settings) (facts : Facts) (journal : List Entry) → KnowsPlan plan → IsSound plan facts → IsLegal plan facts journal → IsInOrder is_slot (with_openings begun_by (slots_of_calls facts.calls) journal) (slots_of_calls (facts_after plan facts journal).calls)
 calls_in_order plan facts journal p sound legal =
-    ordered is_slot plan facts (λ (f : Facts). slots_of_calls f.calls) begun_by (call_keeps plan) (order_single is_slot slots (slots_of_calls facts.calls) (single_slots facts.calls sound.apart)) journal
+    ordered is_slot plan facts (λ (f : Facts). slots_of_calls f.calls) begun_by (call_keeps plan) (order_single is_slot slots (slots_of_calls facts.calls) (single_slots facts.calls sound.calls.apart)) journal
     (throughout plan facts (Orders is_slot (λ (f : Facts). slots_of_calls f.calls) begun_by) (call_order plan) journal p sound legal)

@@ -51,7 +51,7 @@ pub none_on_control : (plan : Settings) (now : Facts) → IsSound plan now → h
 none_on_control plan now h = either (has_call_on now.calls (control_slot plan)) refl
   where
     either : (b : Bool) → has_call_on now.calls (control_slot plan) ≡ b → b ≡ false
-    either true e = true_false _ (itself (control_slot plan)) (h.payload (control_slot plan) e).apart
+    either true e = true_false _ (itself (control_slot plan)) (h.calls.payload (control_slot plan) e).apart
     either false e = refl
 
 pub ack_may : (plan : Settings) (now : Facts) (source target reason : ℕ) → IsSound plan now → is_up now plan.control ≡ true → length (outbox now (control_slot plan)) < 64 → AllMayDo plan now (ack plan source target reason)
@@ -79,8 +79,8 @@ pub clear_may : (plan : Settings) (now : Facts) (call : Call) → KnowsPlan plan
 unfolding clear
 clear_may plan now call p h stands =
     let on = call_is_active now.calls call.slot call stands in
-    let there : IsPayload plan now.up call.slot = h.payload call.slot on.0 in
-    let none : length (outbox now call.slot) ≡ 0 = ap (λ (xs : List Pdu). length xs) (h.quiet call.slot on.0) in
+    let there : IsPayload plan now.up call.slot = h.calls.payload call.slot on.0 in
+    let none : length (outbox now call.slot) ≡ 0 = ap (λ (xs : List Pdu). length xs) (h.calls.quiet call.slot on.0) in
     (tt, copies_may plan.clear_copies plan (facts_after_act now (Ended call.slot)) call.slot (Clear (lpcn_of plan plan.control) call.group call.target plan.tsi) there.is_up there.small (none_left call.slot now.calls) tt (omega (arith, p.few_clears)))
 
 pub begin_may : (plan : Settings) (now : Facts) (call : Call) → KnowsPlan plan → IsSound plan now → is_up now plan.control ≡ true → MayBegin plan now call → length (outbox now (control_slot plan)) + plan.grant_copies ≤ 64 → AllMayDo plan now (begin plan call)
@@ -126,7 +126,7 @@ pub group_engage : (plan : Settings) (now : Facts) (source target : ℕ) → IsS
 group_engage plan now source target h registered free listed = record {
   parties = λ r k. elim (group_party r source target) [ inl e ↦ absurd (omega arith) | inr e ↦ subst (λ (x : ℕ). is_registered now x ≡ true) e.1 registered ];
   once = λ r. elim (group_party r source target) [
-    | inl e ↦ omega (arith, h.once r)
+    | inl e ↦ omega (arith, h.radios.once r)
     | inr e ↦ (let none : engagements now.calls now.asks now.lines r ≡ 0 = not_engaged now r (subst (λ (x : ℕ). is_engaged now x ≡ false) e.1 free) in omega arith)
   ];
   listed = λ g. listed;
@@ -151,7 +151,7 @@ individual_engage plan now asks source target h fewer apart registered also free
     | inr e ↦ elim e.1 [ inl s ↦ subst (λ (x : ℕ). is_registered now x ≡ true) s registered | inr t ↦ subst (λ (x : ℕ). is_registered now x ≡ true) t also ]
   ];
   once = λ r. elim (two_parties r source target apart) [
-    | inl e ↦ omega (arith, h.once r, fewer r)
+    | inl e ↦ omega (arith, h.radios.once r, fewer r)
     | inr e ↦ (let none : engagements now.calls now.asks now.lines r ≡ 0 = elim e.1 [
       | inl s ↦ not_engaged now r (subst (λ (x : ℕ). is_engaged now x ≡ false) s free)
       | inr t ↦ not_engaged now r (subst (λ (x : ℕ). is_engaged now x ≡ false) t idle)
@@ -191,5 +191,5 @@ on_slots (s ∷ cs) h =
 pub few_with_free : (plan : Settings) (now : Facts) (slot : Slot) → KnowsPlan plan → IsSound plan now → is_free plan now slot ≡ true → slot.slot < 2 → length now.calls < 31
 few_with_free plan now slot p h free small =
     let f : IsFree plan now slot = free_is plan now slot free in
-    few_calls now.calls (control_slot plan) slot (on_slots now.calls (λ s k. (p.numbers s.carrier (h.payload s k).known, (h.payload s k).small))) h.apart
+    few_calls now.calls (control_slot plan) slot (on_slots now.calls (λ s k. (p.numbers s.carrier (h.calls.payload s k).known, (h.calls.payload s k).small))) h.calls.apart
     (p.numbers plan.control p.control) (omega arith) (p.numbers slot.carrier f.known) small (none_on_control plan now h) f.none f.apart

@@ -12,7 +12,7 @@ use Rattle.dmr_plan.specs.declared.settings.Settings.{Settings}
 use Rattle.dmr_plan.specs.Plan.{lists_radio}
 use Rattle.dmr_registry.specs.Radios.{AreDistinct, is_registered_in, is_full, radios_after_join}
 use Rattle.dmr_core.specs.Restored.{restored, facts_with}
-use Rattle.dmr_core.specs.Sound.{IsSound}
+use Rattle.dmr_core.specs.Sound.{AreRadiosSound, IsSound}
 use Rattle.dmr_core.proofs.ListLemmas.{length-filter_le}
 use Rattle.dmr_core.proofs.NothingIsSound.{nothing_is_sound}
 
@@ -20,36 +20,8 @@ use Rattle.dmr_core.proofs.NothingIsSound.{nothing_is_sound}
 pub restored_is_sound : (plan : Settings) (radios : List ℕ) → AreDistinct radios → length radios ≤ 4096 → IsSound plan (facts_with radios)
 restored_is_sound plan radios distinct few =
     let nothing = nothing_is_sound plan in
-    record {
-      carriers = nothing.carriers;
-      slots = nothing.slots;
-      known = nothing.known;
-      apart = nothing.apart;
-      payload = nothing.payload;
-      quiet = nothing.quiet;
-      asks = nothing.asks;
-      lines = nothing.lines;
-      distinct = distinct;
-      parties = λ r k. absurd (omega arith);
-      called = nothing.called;
-      lined = nothing.lined;
-      once = nothing.once;
-      down = nothing.down;
-      elsewhere = nothing.elsewhere;
-      own = nothing.own;
-      few_calls = nothing.few_calls;
-      few_asks = nothing.few_asks;
-      few_lines = nothing.few_lines;
-      few_radios = few;
-      few_waiting = nothing.few_waiting;
-      ages = nothing.ages;
-      waits = nothing.waits;
-      noiseless = nothing.noiseless;
-      window = nothing.window;
-      counted = nothing.counted;
-      unfilled = nothing.unfilled;
-      unnamed = nothing.unnamed;
-    }
+    let registered : AreRadiosSound radios [] [] [] = record { distinct = distinct; parties = λ r k. absurd (omega arith); once = λ r. omega arith; few = few } in
+    assumption registered
 
 -- a radio that joins, with what holds of each radio
 joined-each : (P : ℕ → Type 0) (held : List ℕ) (radio : ℕ) (is_there is_no_room : Bool) → All P held → P radio → All P (cond is_there held (cond is_no_room held (held ++ radio ∷ [])))

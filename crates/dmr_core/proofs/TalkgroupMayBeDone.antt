@@ -53,9 +53,9 @@ pub talkgroup_may : (plan : Settings) (now : Facts) (q : Request) → KnowsPlan 
 unfolding acts_for_talkgroup_request
 talkgroup_may plan now q p h up room registered =
     let own : (call : Call) → own_group_call now.calls q.source q.target ≡ Some call → AllMayDo plan now (grant plan call false) =
-    λ call k. grant_may plan now call false h up (found_is_active (λ s. (s.call.source == q.source) && (s.call.group && (s.call.target == q.target))) now.calls call h.apart k) (omega (arith, p.few_grants)) in
+    λ call k. grant_may plan now call false h up (found_is_active (λ s. (s.call.source == q.source) && (s.call.group && (s.call.target == q.target))) now.calls call h.calls.apart k) (omega (arith, p.few_grants)) in
     let late : (call : Call) → group_call now.calls q.target ≡ Some call → AllMayDo plan now (grant plan call true) =
-    λ call k. grant_may plan now call true h up (found_is_active (λ s. s.call.group && (s.call.target == q.target)) now.calls call h.apart k) (omega (arith, p.few_grants)) in
+    λ call k. grant_may plan now call true h up (found_is_active (λ s. s.call.group && (s.call.target == q.target)) now.calls call h.calls.apart k) (omega (arith, p.few_grants)) in
     let new : is_engaged now q.source ≡ false → lists_group plan q.target ≡ true → AllMayDo plan now (acts_for_new_call plan now (record { source = q.source; target = q.target; group = true })) =
     λ free listed. new_call_may plan now (record { source = q.source; target = q.target; group = true }) p h up room (group_engage plan now q.source q.target h registered free listed) in
     let acked : (s t reason : ℕ) → AllMayDo plan now (ack plan s t reason) = λ s t reason. ack_may plan now s t reason h up (omega arith) in

@@ -170,7 +170,7 @@ due_turn : (plan : Settings) (calls : List ActiveCall) (most n : ℕ) (call othe
 due_turn plan calls most n call other now slot pdu p sound target due is turn h = either (place other.slot == place call.slot) refl
   where
     payload : IsPayload plan now.up other.slot
-    payload = sound.payload other.slot (call_is_active now.calls other.slot other turn.stands).0
+    payload = sound.calls.payload other.slot (call_is_active now.calls other.slot other turn.stands).0
 
     same_call : place other.slot ≡ place call.slot → other ≡ call
     same_call e =
@@ -224,7 +224,7 @@ fill_step turns plan calls most n call now slot pdu p sound target entry h = eit
   where
     either : (b : Bool) → is_late_due now.fills ≡ b → (pdu ≡ grant_pdu plan call true) ⊎ IsGoing plan calls (place call.slot) most (n + 1) (facts_after_act now (Fill slot pdu))
     either true e = due_step turns plan calls most n call now slot pdu p sound target e entry h
-    either false e = inr (not_due plan calls (place call.slot) most n now slot pdu e sound.counted entry h)
+    either false e = inr (not_due plan calls (place call.slot) most n now slot pdu e sound.access.counted entry h)
 
 -- the same with an equal number of Fills
 again : (plan : Settings) (calls : List ActiveCall) (t most n m : ℕ) (now : Facts) → n ≡ m → IsGoing plan calls t most n now → IsGoing plan calls t most m now
@@ -273,7 +273,7 @@ goes turns plan facts call (entry ∷ earlier) p sound legal target steady still
 -- a talkgroup call is on a slot of the site
 target_is : (plan : Settings) (facts : Facts) (call : Call) → KnowsPlan plan → IsSound plan facts → call_on facts.calls call.slot ≡ Some call → call.group ≡ true → IsTarget facts.calls call
 target_is plan facts call p sound stands group =
-    let payload : IsPayload plan facts.up call.slot = sound.payload call.slot (call_is_active facts.calls call.slot call stands).0 in
+    let payload : IsPayload plan facts.up call.slot = sound.calls.payload call.slot (call_is_active facts.calls call.slot call stands).0 in
     record { stands = stands; group = group; small = payload.small; within = omega (arith, payload.small, p.numbers call.slot.carrier payload.known) }
 
 pub named_within : TakeTurns → (plan : Settings) (facts : Facts) (journal : List Entry) (call : Call) → IsPlan plan → IsSound plan facts → IsLegal plan facts journal → is_steady journal ≡ true → facts.moving ≡ None → call_on facts.calls call.slot ≡ Some call → call.group ≡ true → 4 * talkgroup_calls facts.calls ≤ fills_in journal → IsFilledWith (grant_pdu plan call true) journal
@@ -281,5 +281,5 @@ named_within turns plan facts journal call p sound legal steady still stands gro
     let target : IsTarget facts.calls call = target_is plan facts call (plan_known plan p) sound stands group in
     elim (goes turns plan facts call journal p sound legal target steady still) [
       | inl named ↦ named
-      | inr going ↦ absurd (omega (arith, enough, going.few, (sound_after plan facts journal (plan_known plan p) sound legal).counted, some_left (is_group_at facts.calls) (place_after (last_slot plan (facts_after plan facts journal))) (place call.slot) going.d (target_there facts.calls call target) going.near))
+      | inr going ↦ absurd (omega (arith, enough, going.few, (sound_after plan facts journal (plan_known plan p) sound legal).access.counted, some_left (is_group_at facts.calls) (place_after (last_slot plan (facts_after plan facts journal))) (place call.slot) going.d (target_there facts.calls call target) going.near))
     ]

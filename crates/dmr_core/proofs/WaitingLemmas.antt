@@ -38,7 +38,7 @@ other_box there boxes slot v near small apart =
 
 queue_passes : (plan : Settings) (there : Slot) (now : Facts) (slot : Slot) (pdu : Pdu) (b : Bool) → is_slot slot there ≡ b → there.slot < 2 → KnowsPlan plan → IsSound plan now → MayQueue plan now slot pdu → outbox now there ++ (if b then pdu ∷ [] else []) ≡ box (outboxes_with_pdu now.outboxes slot pdu) there
 queue_passes plan there now slot pdu true e near p h may =
-    let put : box (outboxes_with_pdu now.outboxes slot pdu) slot ≡ box now.outboxes slot ++ pdu ∷ [] = get_or-set_same now.outboxes (place slot) (box now.outboxes slot ++ pdu ∷ []) [] (within_boxes plan now slot p h may.up may.small) in
+    let put : box (outboxes_with_pdu now.outboxes slot pdu) slot ≡ box now.outboxes slot ++ pdu ∷ [] = get_or-set_same now.outboxes (place slot) (box now.outboxes slot ++ pdu ∷ []) [] (within_boxes plan now p h slot [] may.up may.small) in
     subst (λ (x : Slot). box now.outboxes x ++ pdu ∷ [] ≡ box (outboxes_with_pdu now.outboxes slot pdu) x) (same_slot slot there e) (sym put)
 queue_passes plan there now slot pdu false e near p h may = other_box there now.outboxes slot (box now.outboxes slot ++ pdu ∷ []) near may.small e
 
@@ -48,7 +48,7 @@ first_and_rest (y ∷ ys) x h = let same : y ≡ x = cc in ap (λ (z : Pdu). z �
 
 send_passes : (plan : Settings) (there : Slot) (now : Facts) (slot : Slot) (pdu : Pdu) (b : Bool) → is_slot slot there ≡ b → there.slot < 2 → KnowsPlan plan → IsSound plan now → is_up now slot.carrier ≡ true → slot.slot < 2 → slice_get (outbox now slot) 0 ≡ Some pdu → outbox now there ++ [] ≡ (if b then pdu ∷ [] else []) ++ box (outboxes_after_send now.outboxes slot) there
 send_passes plan there now slot pdu true e near p h up small first =
-    let left : box (outboxes_after_send now.outboxes slot) slot ≡ drop 1 (box now.outboxes slot) = get_or-set_same now.outboxes (place slot) (drop 1 (box now.outboxes slot)) [] (within_boxes plan now slot p h up small) in
+    let left : box (outboxes_after_send now.outboxes slot) slot ≡ drop 1 (box now.outboxes slot) = get_or-set_same now.outboxes (place slot) (drop 1 (box now.outboxes slot)) [] (within_boxes plan now p h slot [] up small) in
     subst (λ (x : Slot). box now.outboxes x ++ [] ≡ pdu ∷ box (outboxes_after_send now.outboxes slot) x) (same_slot slot there e)
     (append-nil (box now.outboxes slot) ∙ first_and_rest (box now.outboxes slot) pdu first ∙ ap (λ (xs : List Pdu). pdu ∷ xs) (sym left))
 send_passes plan there now slot pdu false e near p h up small first = other_box there now.outboxes slot (drop 1 (box now.outboxes slot)) near small e

@@ -8,7 +8,7 @@ pub returns-clause-registered : goal.returns-clause-registered
 returns-clause-registered c = registered_by_last
 
 pub returns-clause-up : goal.returns-clause-up
-returns-clause-up c = λ plan facts journal carrier p h. up_by_last plan facts journal carrier (λ there. omega (arith, (plan_known plan p).numbers carrier there, h.carriers))
+returns-clause-up c = λ plan facts journal carrier p h. up_by_last plan facts journal carrier (λ there. omega (arith, (plan_known plan p).numbers carrier there, h.pool.carriers))
 
 pub returns-clause-up_within : goal.returns-clause-up_within
 returns-clause-up_within c = up_by_last

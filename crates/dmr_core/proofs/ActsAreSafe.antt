@@ -2,6 +2,7 @@
 use Rattle.std.proofs.Common.{◌≡◌, ◌<◌, ◌≤◌, ℕ, List, [], ◌∷◌, ◌++◌, Bool, true, false, refl, sym, ◌∙◌, ap, subst, arith, filter}
 use Rattle.std.specs.Prelude.{fold, Option, Some, cond, ◌&&◌, not, find, ◌==◌, ◌||◌, slice_get}
 use Rattle.std.specs.List.{list_any, list_all}
+use Rattle.std.proofs.lemmas.Bool.{eqb-true, or_parts, and_parts, not-true}
 use Rattle.dmr_pdu.specs.declared.slots.Slot.{Slot}
 use Rattle.dmr_pdu.specs.declared.pdu.Pdu.{Pdu}
 use Rattle.dmr_pdu.specs.declared.pdu.Pdu.TheVariants.{PvGrant, TvGrant}
@@ -26,18 +27,15 @@ use Rattle.dmr_core.specs.Sound.{IsSound, engagements_in_call, is_grant, is_own,
 use Rattle.dmr_core.specs.May.{AllMayDo, MayDo, MayName}
 use Rattle.dmr_core.specs.Laws.{BeginsOnFree, EachAct, GrantsKnown, NamesKnown, QuietActs, QuietAfterReset, SendsOwn, Throughout, grants_on, has_call, is_reset, names_carrier, reset_by_act, reset_by_event}
 use Rattle.dmr_core.proofs.PlanLemmas.{KnowsPlan}
-use Rattle.dmr_core.proofs.NumberLemmas.{equal_itself, equal_numbers}
-use Rattle.dmr_core.proofs.ListLemmas.{total_some, any-map, any-push}
-use Rattle.dmr_core.proofs.ChoiceLemmas.{or_false, and_true, any-filter, not_true}
+use Rattle.dmr_core.proofs.NumberLemmas.{equal_itself}
+use Rattle.dmr_core.proofs.ListLemmas.{find_any, none-filtered, total_some, any-map, any-push, any-filter, true_false, mapped_some}
 use Rattle.dmr_core.proofs.FactsFollowEntries.{facts_after-step}
-use Rattle.dmr_core.proofs.SlotsStaySound.{IsFree, free_is, true_false, same_slot}
+use Rattle.dmr_core.proofs.SlotsStaySound.{IsFree, free_is}
 use Rattle.dmr_core.proofs.GrantsAreOwn.{named_own, call_is_active, own_itself, not_grant_own}
-use Rattle.dmr_core.proofs.ClosingMayBeDone.{found_call}
-use Rattle.dmr_core.proofs.PartsMayBeDone.{left_or}
-use Rattle.dmr_core.proofs.CallsAreApart.{marked_call}
 use Rattle.dmr_core.proofs.ActsKeepSound.{sound-done, sound-acts}
 use Rattle.dmr_core.proofs.EventsKeepSound.{sound-noted}
 use Rattle.dmr_core.proofs.AnswersMayBeDone.{acts_may}
+use Rattle.dmr_core.proofs.CallsAreApart.{same_slot, marked_call}
 
 -- sound facts stay sound
 pub sound_after : (plan : Settings) (facts : Facts) (journal : List Entry) → KnowsPlan plan → IsSound plan facts → IsLegal plan facts journal → IsSound plan (facts_after plan facts journal)
@@ -72,20 +70,8 @@ begins_on_free plan now act h may = tt
 -- a grant's call is active, so its parties are engaged
 active_call_counts : (cs : List ActiveCall) (slot : Slot) (call : Call) (r : ℕ) → call_on cs slot ≡ Some call → party r call.group call.source call.target ≤ total (engagements_in_call r) cs
 active_call_counts cs slot call r h =
-    let s = found_call (λ x. is_slot x.call.slot slot) (find (λ x. is_slot x.call.slot slot) cs) call h in
+    let s = mapped_some _ (find (λ x. is_slot x.call.slot slot) cs) call h in
     subst (λ (k : Call). party r k.group k.source k.target ≤ total (engagements_in_call r) cs) s.2 (total_some (engagements_in_call r) (λ x. is_slot x.call.slot slot) cs s.0 s.1)
-
-pub find_any : {X : Type 0} (p q : X → Bool) (xs : List X) (x : X) → find p xs ≡ Some x → q x ≡ true → list_any q xs ≡ true
-find_any p q [] x h k = cc
-find_any p q (y ∷ ys) x h k = first (p y) h (find_any p q ys x)
-  where
-    or_right : (a b : Bool) → b ≡ true → (a || b) ≡ true
-    or_right true b h = refl
-    or_right false b h = h
-
-    first : (b : Bool) → cond b (Some y) (find p ys) ≡ Some x → (find p ys ≡ Some x → q x ≡ true → list_any q ys ≡ true) → (q y || list_any q ys) ≡ true
-    first true h more = let same : y ≡ x = cc in rw (same, k) refl
-    first false h more = or_right (q y) (list_any q ys) (more h k)
 
 pub source_counts : (group : Bool) (source target : ℕ) → 0 < party source group source target
 source_counts group source target = rw (equal_itself source) (omega arith)
@@ -98,7 +84,7 @@ party_known plan now slot call r h stands k = h.radios.parties r (omega (arith, 
 
 group_known : (plan : Settings) (now : Facts) (slot : Slot) (call : Call) → IsSound plan now → call_on now.calls slot ≡ Some call → call.group ≡ true → lists_group plan call.target ≡ true
 group_known plan now slot call h stands group =
-    let s = found_call (λ x. is_slot x.call.slot slot) (find (λ x. is_slot x.call.slot slot) now.calls) call stands in
+    let s = mapped_some _ (find (λ x. is_slot x.call.slot slot) now.calls) call stands in
     h.calls.listed call.target (find_any (λ x. is_slot x.call.slot slot) (λ x. x.call.group && (x.call.target == call.target)) now.calls s.0 s.1
     (subst (λ (k : Call). (k.group && (k.target == call.target)) ≡ true) (sym s.2) (rw (group, equal_itself call.target) refl)))
 
@@ -126,11 +112,11 @@ grants_known plan now act h may = tt
 -- a grant that is sent is that of its call
 first_own : (p : Pdu → Bool) (xs : List Pdu) (x : Pdu) → slice_get xs 0 ≡ Some x → list_all p xs ≡ true → p x ≡ true
 first_own p [] x h k = cc
-first_own p (y ∷ ys) x h k = let same : y ≡ x = cc in rw (← same) (and_true (p y) (list_all p ys) k).0
+first_own p (y ∷ ys) x h k = let same : y ≡ x = cc in rw (← same) (and_parts (p y) (list_all p ys) k).0
 
 first_none : (p : Pdu → Bool) (xs : List Pdu) (x : Pdu) → slice_get xs 0 ≡ Some x → list_any p xs ≡ false → p x ≡ false
 first_none p [] x h k = cc
-first_none p (y ∷ ys) x h k = let same : y ≡ x = cc in rw (← same) (or_false (p y) (list_any p ys) k).0
+first_none p (y ∷ ys) x h k = let same : y ≡ x = cc in rw (← same) (or_parts (p y) (list_any p ys) k).0
 
 sent_own : (plan : Settings) (now : Facts) (there slot : Slot) (pdu : Pdu) (call : Call) → KnowsPlan plan → IsSound plan now → there.slot < 2 → slice_get (outbox now there) 0 ≡ Some pdu → call_on now.calls slot ≡ Some call → is_own plan call pdu ≡ true
 sent_own plan now there slot pdu call p h small first stands = either (is_slot there (control_slot plan)) refl
@@ -163,28 +149,24 @@ call_begins : (calls : List ActiveCall) (call : Call) (c : ℕ) → has_call cal
 call_begins calls call c h k = rw (any-push (λ s. s.call.slot.carrier == c) calls (just_begun call), h, k) refl
 
 pub quiet_act : (c : ℕ) (b : Bool) (now : Facts) (act : Act) → (b ≡ true → has_call now.calls c ≡ false) → reset_by_act c b act ≡ true → has_call (facts_after_act now act).calls c ≡ false
-quiet_act c b now (Began call) h k = let both = and_true b (not (call.slot.carrier == c)) k in call_begins now.calls call c (h both.0) (not_true _ both.1)
+quiet_act c b now (Began call) h k = let both = and_parts b (not (call.slot.carrier == c)) k in call_begins now.calls call c (h both.0) (not-true _ both.1)
 quiet_act c b now (Ended slot) h k = any-filter (λ s. s.call.slot.carrier == c) (λ s. not (is_slot s.call.slot slot)) now.calls (h k)
 quiet_act c b now act h k = h k
 
-none_there : (c : ℕ) (cs : List ActiveCall) → has_call (filter (λ s. not (s.call.slot.carrier == c)) cs) c ≡ false
-none_there c [] = refl
-none_there c (s ∷ cs) = left_or (λ x. x.call.slot.carrier == c) s (s.call.slot.carrier == c) (filter (λ x. not (x.call.slot.carrier == c)) cs) refl (none_there c cs)
-
 quiet_reset : (c d : ℕ) (b : Bool) (cs : List ActiveCall) → (b ≡ true → has_call cs c ≡ false) → (b || (d == c)) ≡ true → has_call (filter (λ s. not (s.call.slot.carrier == d)) cs) c ≡ false
 quiet_reset c d true cs h k = any-filter (λ s. s.call.slot.carrier == c) (λ s. not (s.call.slot.carrier == d)) cs (h refl)
-quiet_reset c d false cs h k = subst (λ (n : ℕ). has_call (filter (λ s. not (s.call.slot.carrier == n)) cs) c ≡ false) (sym (equal_numbers d c k)) (none_there c cs)
+quiet_reset c d false cs h k = subst (λ (n : ℕ). has_call (filter (λ s. not (s.call.slot.carrier == n)) cs) c ≡ false) (sym (eqb-true d c k)) (none-filtered (λ s. s.call.slot.carrier == c) cs)
 
 quiet_event : (plan : Settings) (c : ℕ) (b : Bool) (now : Facts) (event : Event) → (b ≡ true → has_call now.calls c ≡ false) → reset_by_event c b event ≡ true → has_call (facts_after_event plan now event).calls c ≡ false
 quiet_event plan c b now (Up d) h k = quiet_reset c d b now.calls h k
 quiet_event plan c b now (Lost d) h k = quiet_reset c d b now.calls h k
-quiet_event plan c b now (Active slot) h k = any-map (λ s. s.call.slot.carrier == c) (with_activity slot) (λ s. ap (λ (x : Call). x.slot.carrier == c) (marked_call slot s)) now.calls ∙ h k
-quiet_event plan c b now Tick h k = any-map (λ s. s.call.slot.carrier == c) one_tick_older (λ s. refl) now.calls ∙ h k
+quiet_event plan c b now (Active slot) h k = any-map _ _ (with_activity slot) (λ s. ap (λ (x : Call). x.slot.carrier == c) (marked_call slot s)) now.calls ∙ h k
+quiet_event plan c b now Tick h k = any-map _ _ one_tick_older (λ s. refl) now.calls ∙ h k
 quiet_event plan c b now event h k = h k
 
 active_on_carrier : (cs : List ActiveCall) (slot : Slot) (call : Call) → call_on cs slot ≡ Some call → has_call cs call.slot.carrier ≡ true
 active_on_carrier cs slot call stands =
-    let s = found_call (λ x. is_slot x.call.slot slot) (find (λ x. is_slot x.call.slot slot) cs) call stands in
+    let s = mapped_some _ (find (λ x. is_slot x.call.slot slot) cs) call stands in
     find_any (λ x. is_slot x.call.slot slot) (λ x. x.call.slot.carrier == call.slot.carrier) cs s.0 s.1
     (subst (λ (k : Call). (k.slot.carrier == call.slot.carrier) ≡ true) (sym s.2) (equal_itself call.slot.carrier))
 
@@ -206,7 +188,7 @@ call_names plan c now call late p there h stands none = carrier_named plan c cal
     either : (b : Bool) → (lpcn_of plan call.slot.carrier == lpcn_of plan c) ≡ b → b ≡ false
     either true e =
         let on = call_is_active now.calls call.slot call stands in
-        let same : call.slot.carrier ≡ c = p.channels call.slot.carrier c (h.calls.payload call.slot on.0).known there (equal_numbers (lpcn_of plan call.slot.carrier) (lpcn_of plan c) e) in
+        let same : call.slot.carrier ≡ c = p.channels call.slot.carrier c (h.calls.payload call.slot on.0).known there (eqb-true (lpcn_of plan call.slot.carrier) (lpcn_of plan c) e) in
         true_false _ (subst (λ (n : ℕ). has_call now.calls n ≡ true) same (active_on_carrier now.calls call.slot call stands)) none
     either false e = refl
 

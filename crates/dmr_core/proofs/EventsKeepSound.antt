@@ -2,7 +2,7 @@
 use Rattle.std.proofs.Common.{◌≡◌, ◌<◌, ◌≤◌, ◌+◌, ◌*◌, ℕ, zero, suc, List, [], ◌∷◌, Bool, true, false, refl, sym, ◌∙◌, ap, subst, arith, map, filter, length, ◌⊎◌, inl, inr, set, get_or, length-set}
 use Rattle.std.specs.Prelude.{Option, Some, None, if◌then◌else◌, cond, ◌&&◌, not, find, ◌==◌, slice_set, slice_index_or, option_map}
 use Rattle.std.specs.List.{list_any, list_all}
-use Rattle.std.proofs.lemmas.Bool.{cases_Bool, cases_lt, cond_both, false_from_ne_true}
+use Rattle.std.proofs.lemmas.Bool.{cases_Bool, cases_lt, cond_both, false_from_ne_true, eqb-true, eqb-false, and_parts, not-true}
 use Rattle.std.proofs.lemmas.List.Elements.{All-map, All-nil, All-weaker}
 use Rattle.std.proofs.lemmas.List.{get_or-set_other, get_or-set_same, length-map, length-take}
 use Rattle.dmr_pdu.specs.declared.slots.Slot.{Slot}
@@ -24,12 +24,10 @@ use Rattle.dmr_core.specs.Facts.{Facts, has_carrier, facts_after_event}
 use Rattle.dmr_core.specs.Words.{is_up}
 use Rattle.dmr_core.specs.Sound.{AreAsksSound, AreCallsSound, AreLinesSound, AreRadiosSound, IsAccessSound, IsPayload, IsPoolSound, IsSound, engagements, engagements_in_ask, engagements_in_call, engagements_in_line, is_grant, is_own, party, total}
 use Rattle.dmr_core.proofs.PlanLemmas.{KnowsPlan}
-use Rattle.dmr_core.proofs.NumberLemmas.{equal_numbers, flipped, other_number}
-use Rattle.dmr_core.proofs.ListLemmas.{total-filter, total-map, any-map}
-use Rattle.dmr_core.proofs.ChoiceLemmas.{and_true, not_true}
-use Rattle.dmr_core.proofs.CallsAreApart.{marked_call, apart-map, has_call_on-map}
-use Rattle.dmr_core.proofs.SlotsStaySound.{true_false}
-use Rattle.dmr_core.proofs.GrantsAreOwn.{calls-filter, has_call_on-filter}
+use Rattle.dmr_core.proofs.NumberLemmas.{flipped}
+use Rattle.dmr_core.proofs.ListLemmas.{total-filter, total-map, any-map, true_false}
+use Rattle.dmr_core.proofs.CallsAreApart.{apart-map, has_call_on-map, marked_call, has_call_on-filter}
+use Rattle.dmr_core.proofs.GrantsAreOwn.{calls-filter}
 use Rattle.dmr_core.proofs.LimitsAreKept.{IsCounted, IsWaitCounted}
 use Rattle.dmr_core.proofs.RadiosEngagedOnce.{fewer_engaged}
 
@@ -56,7 +54,7 @@ module _ (f : ActiveCall → ActiveCall) (same : (s : ActiveCall) → (f s).call
         payload = λ slot k. h.calls.payload slot (sym (has_call_on-map f same now.calls slot) ∙ k);
         quiet = λ slot k. h.calls.quiet slot (sym (has_call_on-map f same now.calls slot) ∙ k);
         own = λ slot call k. h.calls.own slot call (sym (call_on-map now.calls slot) ∙ k);
-        listed = λ g k. h.calls.listed g (sym (any-map (λ s. s.call.group && (s.call.target == g)) f (to_group g) now.calls) ∙ k);
+        listed = λ g k. h.calls.listed g (sym (any-map _ _ f (to_group g) now.calls) ∙ k);
         few = omega (arith, h.calls.few, length-map now.calls f);
         ages = All-map IsCounted f now.calls (All-weaker IsCounted (λ s. IsCounted (f s)) counted now.calls h.calls.ages);
       } in
@@ -158,7 +156,7 @@ module _ (plan : Settings) (now : Facts) (c : ℕ) (up : List Bool) (begun : Lis
   down_there : (slot : Slot) → slot.slot < 2 → slice_index_or up slot.carrier false ≡ false
       → box (outboxes_without_carrier now.outboxes c) slot ≡ []
   down_there slot small k = elim (cases_Bool (slot.carrier == c)) [
-    | inl e ↦ emptied_box now.outboxes c slot small (equal_numbers _ _ e)
+    | inl e ↦ emptied_box now.outboxes c slot small (eqb-true _ _ e)
     | inr e ↦ emptied_or (λ b. b ≡ []) now.outboxes c slot refl (h.pool.down slot small (sym (others slot.carrier e) ∙ k))
   ]
 
@@ -179,7 +177,7 @@ module _ (plan : Settings) (now : Facts) (c : ℕ) (up : List Bool) (begun : Lis
         apart = f.apart;
         payload = λ slot k.
             let was : IsPayload plan now.up slot = f.payload slot k in
-            let other : (slot.carrier == c) ≡ false = not_true _ (and_true _ _ (sym (has_call_on-filter (λ x. not (x.carrier == c)) now.calls slot) ∙ k)).0 in
+            let other : (slot.carrier == c) ≡ false = not-true _ (and_parts _ _ (sym (has_call_on-filter (λ x. not (x.carrier == c)) now.calls slot) ∙ k)).0 in
             record { known = was.known; is_up = others slot.carrier other ∙ was.is_up; small = was.small; apart = was.apart };
         quiet = λ slot k. emptied_or (λ b. b ≡ []) now.outboxes c slot refl (f.quiet slot k);
         own = λ slot call k. emptied_or (λ b. list_all (is_own plan call) b ≡ true) now.outboxes c (control_slot plan) refl (f.own slot call k);
@@ -220,8 +218,8 @@ known_set : (plan : Settings) (up : List Bool) (c x : ℕ) → has_carrier plan 
     → (slice_index_or up x false ≡ true → has_carrier plan x ≡ true)
     → slice_index_or (slice_set up c true) x false ≡ true → has_carrier plan x ≡ true
 known_set plan up c x there h k = elim (cases_Bool (x == c)) [
-  | inl e ↦ rw (equal_numbers x c e) there
-  | inr e ↦ h (sym (get_or-set_other up c x true false (other_number x c e)) ∙ k)
+  | inl e ↦ rw (eqb-true x c e) there
+  | inr e ↦ h (sym (get_or-set_other up c x true false (eqb-false x c e)) ∙ k)
 ]
 
 pub cleared : (up : List Bool) (c : ℕ) → slice_index_or (slice_set up c false) c false ≡ false
@@ -232,14 +230,14 @@ cleared (b ∷ up) (suc c) = cleared up c
 known_cleared : (plan : Settings) (up : List Bool) (c x : ℕ) → (slice_index_or up x false ≡ true → has_carrier plan x ≡ true)
     → slice_index_or (slice_set up c false) x false ≡ true → has_carrier plan x ≡ true
 known_cleared plan up c x h k = elim (cases_Bool (x == c)) [
-  | inl e ↦ true_false _ k (rw (equal_numbers x c e) (cleared up c))
-  | inr e ↦ h (sym (get_or-set_other up c x false false (other_number x c e)) ∙ k)
+  | inl e ↦ true_false _ k (rw (eqb-true x c e) (cleared up c))
+  | inr e ↦ h (sym (get_or-set_other up c x false false (eqb-false x c e)) ∙ k)
 ]
 
 -- a carrier that the plan does not have is not the control carrier
 pub not_control : (plan : Settings) (c : ℕ) → KnowsPlan plan → has_carrier plan c ≡ false → (c == plan.control) ≡ false
 not_control plan c p h =
-    false_from_ne_true _ (λ e. let same : c ≡ plan.control = equal_numbers c plan.control e in true_false _ p.control (rw same at h))
+    false_from_ne_true _ (λ e. let same : c ≡ plan.control = eqb-true c plan.control e in true_false _ p.control (rw same at h))
 
 began : (up : Bool) → up ≡ true → IsAccessSound up noise_at_up 0 None
 unfolding noise_at_up
@@ -252,8 +250,8 @@ came_up : (plan : Settings) (now : Facts) (c : ℕ) (b : Bool) → has_carrier p
     → IsSound plan (record (facts_after_event plan now (Up c)) { up = if b then slice_set now.up c true else now.up })
 came_up plan now c true e p h =
     sound-reset plan now c (slice_set now.up c true) noise_at_up h (length-set now.up c true ∙ h.pool.carriers)
-    (λ x. known_set plan now.up c x e (h.pool.known x)) (λ x k. get_or-set_other now.up c x true false (other_number x c k))
-    (λ k. began _ (rw (equal_numbers c plan.control k) (get_or-set_same now.up plan.control true false (omega (arith, p.numbers plan.control p.control, h.pool.carriers)))))
+    (λ x. known_set plan now.up c x e (h.pool.known x)) (λ x k. get_or-set_other now.up c x true false (eqb-false x c k))
+    (λ k. began _ (rw (eqb-true c plan.control k) (get_or-set_same now.up plan.control true false (omega (arith, p.numbers plan.control p.control, h.pool.carriers)))))
 came_up plan now c false e p h =
     sound-reset plan now c now.up noise_at_up h h.pool.carriers h.pool.known (λ x k. refl) (λ k. true_false _ k (not_control plan c p e))
 
@@ -262,8 +260,8 @@ pub sound-noted : (plan : Settings) (now : Facts) (event : Event) → KnowsPlan 
 sound-noted plan now (Up c) p h = came_up plan now c (has_carrier plan c) refl p h
 sound-noted plan now (Lost c) p h =
     sound-reset plan now c (slice_set now.up c false) [] h (length-set now.up c false ∙ h.pool.carriers)
-    (λ x. known_cleared plan now.up c x (h.pool.known x)) (λ x k. get_or-set_other now.up c x false false (other_number x c k))
-    (λ k. over _ (rw (equal_numbers c plan.control k) (cleared now.up plan.control)))
+    (λ x. known_cleared plan now.up c x (h.pool.known x)) (λ x k. get_or-set_other now.up c x false false (eqb-false x c k))
+    (λ k. over _ (rw (eqb-true c plan.control k) (cleared now.up plan.control)))
 sound-noted plan now (Active slot) p h = sound-mapped (with_activity slot) (marked_call slot) plan now (marked_counted slot) h
 sound-noted plan now Tick p h =
     sound-waited plan (record now { calls = map one_tick_older now.calls })

@@ -20,7 +20,7 @@ use Rattle.dmr_core.specs.Rules.{grant_pdu, late_entry}
 use Rattle.dmr_core.specs.Sound.{IsAccessSound, is_grant}
 use Rattle.dmr_core.specs.May.{MayDo, MayName, late_entry_of_fill}
 use Rattle.dmr_core.specs.Turns.{IsLateOf}
-use Rattle.dmr_core.proofs.SlotsStaySound.{true_false}
+use Rattle.dmr_core.proofs.ListLemmas.{true_false}
 
 -- Fills are counted and late entries noted only while the control carrier is up
 pub access-filled : (up : Bool) (noise : List ℕ) (fills : ℕ) (late named : Option NamedSlot) → up ≡ true → IsAccessSound up noise fills late

@@ -4,13 +4,13 @@ use Rattle.std.specs.Prelude.{◌||◌, nat_eq}
 use Rattle.std.specs.List.{list_any, IsDistinct, AllByRecursion}
 use Rattle.std.proofs.lemmas.Bool.Decides.{nat_tests}
 use Rattle.std.proofs.lemmas.Map.Steps.{length-le_from_distinct_below}
+use Rattle.std.proofs.lemmas.Bool.{or_parts}
 use Rattle.dmr_pdu.specs.declared.slots.Slot.{Slot}
 use Rattle.dmr_calls.specs.declared.call.ActiveCall.{ActiveCall}
 use Rattle.dmr_calls.specs.Calls.{is_slot}
 use Rattle.dmr_pool.specs.Slots.{place}
 use Rattle.dmr_core.specs.Words.{has_call_on}
 use Rattle.dmr_core.specs.Sound.{AreOnDistinctSlots}
-use Rattle.dmr_core.proofs.ChoiceLemmas.{or_false}
 
 abbrev places : List ActiveCall → List ℕ
 places [] = []
@@ -27,7 +27,7 @@ other_place a b h k apart = grind (arith, nat_tests)
 apart_places : (slot : Slot) (cs : List ActiveCall) → slot.slot < 2 → AreOnSlots cs → has_call_on cs slot ≡ false → AllByRecursion (λ y. nat_eq (place slot) y ≡ false) (places cs)
 apart_places slot [] h on free = tt
 apart_places slot (s ∷ cs) h on free =
-    let both = or_false (is_slot s.call.slot slot) (has_call_on cs slot) free in
+    let both = or_parts (is_slot s.call.slot slot) (has_call_on cs slot) free in
     (other_place slot s.call.slot h on.1 both.0, apart_places slot cs h on.2 both.1)
 
 distinct_places : (cs : List ActiveCall) → AreOnSlots cs → AreOnDistinctSlots cs → IsDistinct nat_eq (places cs)

@@ -4,6 +4,7 @@ use Rattle.std.specs.List.{list_any}
 use Rattle.std.specs.Prelude.{◌&&◌, not, ◌==◌, ◌||◌}
 use Rattle.std.proofs.lemmas.List.{length-append}
 use Rattle.std.proofs.lemmas.List.Elements.{All-filter, All-push}
+use Rattle.std.proofs.lemmas.Bool.{eqb-true}
 use Rattle.dmr_plan.specs.declared.settings.Settings.{Settings}
 use Rattle.dmr_plan.specs.Plan.{lists_group}
 use Rattle.dmr_calls.specs.declared.ask.Ask.{Ask}
@@ -13,14 +14,12 @@ use Rattle.dmr_calls.specs.declared.call.ActiveCall.{ActiveCall}
 use Rattle.dmr_calls.specs.Asks.{new_active_ask, others_than}
 use Rattle.dmr_calls.specs.Lines.{has_group_line, without_line}
 use Rattle.dmr_core.specs.Sound.{AreAsksSound, AreLinesSound}
-use Rattle.dmr_core.proofs.ListLemmas.{any_before, any-push, length-filter_le}
-use Rattle.dmr_core.proofs.NumberLemmas.{equal_numbers}
-use Rattle.dmr_core.proofs.SlotsStaySound.{true_false}
+use Rattle.dmr_core.proofs.ListLemmas.{any_before, any-push, length-filter_le, true_false}
 
 pub listed_or : (plan : Settings) (g target : ℕ) (group : Bool) (old : Bool) → (old ≡ true → lists_group plan g ≡ true)
     → (group ≡ true → lists_group plan target ≡ true) → (old || (group && (target == g))) ≡ true → lists_group plan g ≡ true
 listed_or plan g target group true h k e = h refl
-listed_or plan g target true false h k e = rw (← equal_numbers target g e) (k refl)
+listed_or plan g target true false h k e = rw (← eqb-true target g e) (k refl)
 listed_or plan g target false false h k e = cc
 
 none_left : {X : Type 0} (q : X → Bool) (xs : List X) → xs ≡ [] → filter q xs ≡ []

@@ -9,7 +9,7 @@ use Rattle.dmr_core.specs.Facts.{no_facts}
 use Rattle.dmr_core.specs.Sound.{IsSound, is_grant}
 use Rattle.dmr_core.specs.Words.{is_up}
 use Rattle.dmr_core.proofs.EventsKeepSound.{over}
-use Rattle.dmr_core.proofs.SlotsStaySound.{true_false}
+use Rattle.dmr_core.proofs.ListLemmas.{true_false}
 
 pub none_up : (n c : ℕ) → slice_index_or (replicate n false) c false ≡ false
 none_up zero c = refl

@@ -3,7 +3,7 @@ use Rattle.std.proofs.Common.{◌≡◌, ◌<◌, ◌≤◌, ◌+◌, ℕ, List,
 use Rattle.std.specs.Prelude.{not, ◌==◌}
 use Rattle.std.specs.List.{list_any}
 use Rattle.std.proofs.lemmas.Bool.Decides.{nat_tests}
-use Rattle.std.proofs.lemmas.Bool.{cases_lt, eq-eqb, false_from_ne_true}
+use Rattle.std.proofs.lemmas.Bool.{cases_lt, eq-eqb, false_from_ne_true, eqb-true}
 use Rattle.std.proofs.lemmas.List.{length-append}
 use Rattle.std.proofs.lemmas.List.Folds.{list_any_at}
 use Rattle.std.proofs.lemmas.List.Kept.{AllPairs-filter}
@@ -17,9 +17,7 @@ use Rattle.dmr_calls.specs.declared.call.ActiveCall.{ActiveCall}
 use Rattle.dmr_calls.specs.Asks.{new_active_ask}
 use Rattle.dmr_calls.specs.Calls.{just_begun}
 use Rattle.dmr_core.specs.Sound.{AreRadiosSound, engagements, engagements_in_ask, engagements_in_call, engagements_in_line, party}
-use Rattle.dmr_core.proofs.ListLemmas.{total-append, total-filter, any-push, length-filter_le}
-use Rattle.dmr_core.proofs.NumberLemmas.{equal_numbers}
-use Rattle.dmr_core.proofs.SlotsStaySound.{true_false}
+use Rattle.dmr_core.proofs.ListLemmas.{total-append, total-filter, any-push, length-filter_le, true_false}
 
 -- other calls, asks and lines
 module _ (radios : List ℕ) (calls more_calls : List ActiveCall) (asks more_asks : List ActiveAsk) (lines more_lines : List Line) where
@@ -102,4 +100,4 @@ module _ (radios : List ℕ) (calls : List ActiveCall) (asks : List ActiveAsk) (
   }
     where
       other_radio : (r : ℕ) → 0 < engagements calls asks lines r → (r == q) ≡ false
-      other_radio r k = false_from_ne_true _ (λ e. let same : engagements calls asks lines r ≡ engagements calls asks lines q = ap (λ (n : ℕ). engagements calls asks lines n) (equal_numbers r q e) in omega arith)
+      other_radio r k = false_from_ne_true _ (λ e. let same : engagements calls asks lines r ≡ engagements calls asks lines q = ap (λ (n : ℕ). engagements calls asks lines n) (eqb-true r q e) in omega arith)

@@ -10,7 +10,8 @@ use Rattle.dmr_calls.specs.Calls.{is_slot}
 use Rattle.dmr_pdu.specs.Slots.{place, slot_at}
 use Rattle.dmr_calls.specs.After.{is_group_at, IsNext, NonePass}
 use Rattle.dmr_core.specs.Turns.{talkgroup_calls}
-use Rattle.dmr_core.proofs.SlotsStaySound.{same_slot, true_false}
+use Rattle.dmr_core.proofs.CallsAreApart.{same_slot}
+use Rattle.dmr_core.proofs.ListLemmas.{true_false}
 
 -- a slot is the one at its place
 pub slot_at-place : (slot : Slot) → slot.slot < 2 → slot_at (place slot) ≡ slot

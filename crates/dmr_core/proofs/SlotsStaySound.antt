@@ -2,7 +2,7 @@
 use Rattle.std.proofs.Common.{◌≡◌, ◌<◌, ◌≤◌, List, [], ◌∷◌, ◌++◌, Bool, true, false, refl, sym, ◌∙◌, subst, arith, length, ◌⊎◌, inl, inr, ◌≢◌, drop, length-set}
 use Rattle.std.specs.Prelude.{◌==◌, slice_set, Some}
 use Rattle.std.specs.List.{list_any, list_all}
-use Rattle.std.proofs.lemmas.Bool.{cases_Bool, or_cases}
+use Rattle.std.proofs.lemmas.Bool.{cases_Bool, or_cases, eqb-true, or_parts, and_parts, not-true}
 use Rattle.std.proofs.lemmas.Bool.Decides.{nat_tests}
 use Rattle.std.proofs.lemmas.List.{get_or-set_same, get_or-set_other}
 use Rattle.std.proofs.lemmas.List.Folds.{list_all-append}
@@ -20,19 +20,8 @@ use Rattle.dmr_core.specs.Sound.{AreCallsSound, IsPoolSound, IsSound, is_grant, 
 use Rattle.dmr_core.specs.May.{MayName}
 use Rattle.dmr_core.proofs.FreeLemmas.{granted_known}
 use Rattle.dmr_core.proofs.PlanLemmas.{KnowsPlan}
-use Rattle.dmr_core.proofs.NumberLemmas.{equal_numbers}
-use Rattle.dmr_core.proofs.ListLemmas.{any-push}
-use Rattle.dmr_core.proofs.ChoiceLemmas.{or_false, and_true, not_true}
-
-pub same_slot : (a b : Slot) → is_slot a b ≡ true → a ≡ b
-same_slot a b h =
-    let both = and_true (a.carrier == b.carrier) (a.slot == b.slot) h in
-    let p : a.carrier ≡ b.carrier = equal_numbers _ _ both.0 in
-    let q : a.slot ≡ b.slot = equal_numbers _ _ both.1 in
-    λ i. record { carrier = p i; slot = q i }
-
-pub itself : (a : Slot) → is_slot a a ≡ true
-itself a = grind (arith, nat_tests)
+use Rattle.dmr_core.proofs.CallsAreApart.{itself, same_slot}
+use Rattle.dmr_core.proofs.ListLemmas.{any-push, true_false}
 
 pub other_place : (a b : Slot) → a.slot < 2 → b.slot < 2 → is_slot a b ≡ false → place a ≢ place b
 other_place a b h k apart = λ same. absurd (grind (arith, nat_tests))
@@ -69,30 +58,27 @@ empty_is (x ∷ xs) h = cc
 
 pub free_is : (plan : Settings) (now : Facts) (slot : Slot) → is_free plan now slot ≡ true → IsFree plan now slot
 free_is plan now slot h =
-    let a = and_true _ _ h in
-    let b = and_true _ _ a.0 in
-    let c = and_true _ _ b.0 in
-    let d = and_true _ _ c.0 in
-    let e = and_true _ _ d.0 in
+    let a = and_parts _ _ h in
+    let b = and_parts _ _ a.0 in
+    let c = and_parts _ _ b.0 in
+    let d = and_parts _ _ c.0 in
+    let e = and_parts _ _ d.0 in
     record {
       known = e.0;
       up = e.1;
-      apart = not_true _ d.1;
-      none = not_true _ c.1;
+      apart = not-true _ d.1;
+      none = not-true _ c.1;
       quiet = empty_is _ b.1;
-      ungranted = sym (granted_known plan now.outboxes slot e.0) ∙ not_true _ a.1;
+      ungranted = sym (granted_known plan now.outboxes slot e.0) ∙ not-true _ a.1;
     }
-
-pub true_false : {X : Type 0} (b : Bool) → b ≡ true → b ≡ false → X
-true_false b h k = cc
 
 pub any-drop : (p : Pdu → Bool) (xs : List Pdu) → list_any p xs ≡ false → list_any p (drop 1 xs) ≡ false
 any-drop p [] h = h
-any-drop p (x ∷ xs) h = (or_false (p x) (list_any p xs) h).1
+any-drop p (x ∷ xs) h = (or_parts (p x) (list_any p xs) h).1
 
 pub all-drop : (p : Pdu → Bool) (xs : List Pdu) → list_all p xs ≡ true → list_all p (drop 1 xs) ≡ true
 all-drop p [] h = h
-all-drop p (x ∷ xs) h = (and_true (p x) (list_all p xs) h).1
+all-drop p (x ∷ xs) h = (and_parts (p x) (list_all p xs) h).1
 
 pub any_more : (p : Pdu → Bool) (xs : List Pdu) (x : Pdu) → list_any p xs ≡ false → p x ≡ false → list_any p (xs ++ x ∷ []) ≡ false
 any_more p xs x h k = rw (any-push p xs x, h, k) refl

@@ -3,7 +3,7 @@ use Rattle.std.proofs.Common.{◌≡◌, ◌≢◌, ◌<◌, ◌≤◌, ◌+◌,
 use Rattle.std.specs.Prelude.{◌%◌, ◌==◌, ◌&&◌, fold, Option, Some, None, MatchOption, IfSome, option_map, if◌then◌else◌}
 use Rattle.std.specs.List.{list_all}
 use Rattle.std.specs.Option.{option_and_then, option_map_or}
-use Rattle.std.proofs.lemmas.Bool.{cases_lt}
+use Rattle.std.proofs.lemmas.Bool.{cases_lt, eqb-true, eqb-false, and_parts}
 use Rattle.dmr_pdu.specs.declared.slots.Slot.{Slot}
 use Rattle.dmr_pdu.specs.declared.pdu.Pdu.{Pdu}
 use Rattle.dmr_pdu.specs.declared.pdu.Pdu.TheVariants.{TvGrant}
@@ -32,9 +32,6 @@ use Rattle.dmr_core.specs.Sound.{IsPayload, IsSound, is_grant, total}
 use Rattle.dmr_core.specs.May.{AllMayDo, MayDo, late_entry_of_fill}
 use Rattle.dmr_core.specs.Turns.{FillsInTurn, HasFillOf, IsFilledWith, IsLateOf, NamesActiveCall, fill_in, fills_in, fills_since, is_steady, is_steady_act, is_steady_event, is_turn, talkgroup_calls}
 use Rattle.dmr_core.proofs.PlanLemmas.{KnowsPlan}
-use Rattle.dmr_core.proofs.NumberLemmas.{equal_numbers, other_number}
-use Rattle.dmr_core.proofs.ChoiceLemmas.{and_true}
-use Rattle.dmr_core.proofs.SlotsStaySound.{true_false}
 use Rattle.dmr_core.proofs.GrantsAreOwn.{call_is_active}
 use Rattle.dmr_core.proofs.FillsAreLateEntries.{late_is_active}
 use Rattle.dmr_core.proofs.FactsFollowEntries.{facts_after-step}
@@ -46,6 +43,7 @@ use Rattle.dmr_core.proofs.LastOpenerLemmas.{call_noted}
 use Rattle.dmr_core.proofs.PlansAreKnown.{plan_known}
 use Rattle.dmr_core.proofs.ChannelLemmas.{channel_known}
 use Rattle.dmr_core.proofs.RoundLemmas.{IsWithin, at_first, between, few_places, nearer, slot_at-place, some_left}
+use Rattle.dmr_core.proofs.ListLemmas.{true_false}
 
 -- the law of dmr_calls about the next talkgroup call
 abbrev TakeTurns : Type 0
@@ -155,7 +153,7 @@ unfolding late_entry
 not_due plan calls t most n now slot pdu due few entry h =
     let none : late_entry_of_fill pdu ≡ None = entry ∙ rw due refl in
     let same : late_by_act now.late (Fill slot pdu) ≡ now.late = no_entry now.late slot pdu none in
-    let other : now.fills ≢ 3 = other_number now.fills 3 due in
+    let other : now.fills ≢ 3 = eqb-false now.fills 3 due in
     let more : next_fill_count now.fills ≡ now.fills + 1 = counted_on now.fills few other in
     record {
       still = h.still;
@@ -192,16 +190,16 @@ due_turn plan calls most n call other now slot pdu p sound target due is turn h 
     around = subst (λ (g : ℕ → Bool). IsNext g (place_after (last_slot plan now)) (place other.slot)) (same_test now.calls calls h.same) turn.turn
 
     three : now.fills ≡ 3
-    three = equal_numbers now.fills 3 due
+    three = eqb-true now.fills 3 due
 
     either : (b : Bool) → (place other.slot == place call.slot) ≡ b → (pdu ≡ grant_pdu plan call true) ⊎ IsGoing plan calls (place call.slot) most (n + 1) (facts_after_act now (Fill slot pdu))
-    either true e = inl (is ∙ ap (λ (c : Call). grant_pdu plan c true) (same_call (equal_numbers (place other.slot) (place call.slot) e)))
+    either true e = inl (is ∙ ap (λ (c : Call). grant_pdu plan c true) (same_call (eqb-true (place other.slot) (place call.slot) e)))
     either false e = inr (record {
       still = h.still;
       same = h.same;
       d = h.d - 1;
       near = subst (λ (from : ℕ). IsWithin (is_group_at calls) from (place call.slot) (h.d - 1)) (sym behind)
-          (nearer (is_group_at calls) (place_after (last_slot plan now)) (place call.slot) h.d (place other.slot) target.within (target_there calls call target) (other_number (place other.slot) (place call.slot) e) around h.near);
+          (nearer (is_group_at calls) (place_after (last_slot plan now)) (place call.slot) h.d (place other.slot) target.within (target_there calls call target) (eqb-false (place other.slot) (place call.slot) e) around h.near);
       few = omega (arith, h.few, three, some_left (is_group_at calls) (place_after (last_slot plan now)) (place call.slot) h.d (target_there calls call target) h.near);
     })
 
@@ -235,7 +233,7 @@ acts_go turns plan calls most n call now [] p target sound may steady h = inr (a
 acts_go turns plan calls most n call now (Fill slot pdu ∷ acts) p target sound may steady h =
     elim (fill_step turns plan calls most n call now slot pdu p sound target may.0.late h) [
       | inl named ↦ inl (inl named)
-      | inr going ↦ elim (acts_go turns plan calls most (n + 1) call (facts_after_act now (Fill slot pdu)) acts p target (sound-done plan now (Fill slot pdu) (plan_known plan p) sound may.0) may.1 (and_true true (list_all is_steady_act acts) steady).1 going) [
+      | inr going ↦ elim (acts_go turns plan calls most (n + 1) call (facts_after_act now (Fill slot pdu)) acts p target (sound-done plan now (Fill slot pdu) (plan_known plan p) sound may.0) may.1 (and_parts true (list_all is_steady_act acts) steady).1 going) [
         | inl later ↦ inl (inr later)
         | inr left ↦ inr (again plan calls (place call.slot) most (n + 1 + total fill_in acts) (n + (1 + total fill_in acts)) (fold facts_after_act (facts_after_act now (Fill slot pdu)) acts) (omega arith) left)
       ]
@@ -243,7 +241,7 @@ acts_go turns plan calls most n call now (Fill slot pdu ∷ acts) p target sound
 acts_go turns plan calls most n call now (Began other ∷ acts) p target sound may steady h = cc
 acts_go turns plan calls most n call now (Ended other ∷ acts) p target sound may steady h = cc
 acts_go turns plan calls most n call now (act ∷ acts) p target sound may steady h =
-    elim (acts_go turns plan calls most n call (facts_after_act now act) acts p target (sound-done plan now act (plan_known plan p) sound may.0) may.1 (and_true true (list_all is_steady_act acts) steady).1 (record { still = h.still; same = h.same; d = h.d; near = h.near; few = h.few })) [
+    elim (acts_go turns plan calls most n call (facts_after_act now act) acts p target (sound-done plan now act (plan_known plan p) sound may.0) may.1 (and_parts true (list_all is_steady_act acts) steady).1 (record { still = h.still; same = h.same; d = h.d; near = h.near; few = h.few })) [
       | inl later ↦ inl (inr later)
       | inr left ↦ inr (again plan calls (place call.slot) most (n + total fill_in acts) (n + (0 + total fill_in acts)) (fold facts_after_act (facts_after_act now act) acts) (omega arith) left)
     ]
@@ -259,8 +257,8 @@ goes turns plan facts call [] p sound legal target steady still = inr (record {
 goes turns plan facts call (entry ∷ earlier) p sound legal target steady still =
     let now : Facts = facts_after plan facts earlier in
     let before : IsSound plan now = sound_after plan facts earlier (plan_known plan p) sound legal.1 in
-    let both = and_true (is_steady_event entry.event && list_all is_steady_act entry.acts.list) (is_steady earlier) steady in
-    let here = and_true (is_steady_event entry.event) (list_all is_steady_act entry.acts.list) both.0 in
+    let both = and_parts (is_steady_event entry.event && list_all is_steady_act entry.acts.list) (is_steady earlier) steady in
+    let here = and_parts (is_steady_event entry.event) (list_all is_steady_act entry.acts.list) both.0 in
     let may : AllMayDo plan (facts_after_event plan now entry.event) entry.acts.list = subst (λ (acts : Acts). AllMayDo plan (facts_after_event plan now entry.event) acts.list) (sym legal.0) (acts_may plan now entry.event (plan_known plan p) before) in
     elim (goes turns plan facts call earlier p sound legal.1 target both.1 still) [
       | inl named ↦ inl (inr named)

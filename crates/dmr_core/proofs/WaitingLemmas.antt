@@ -2,6 +2,7 @@
 use Rattle.std.proofs.Common.{◌≡◌, ◌<◌, ◌+◌, ◌*◌, ◌≢◌, ℕ, List, [], ◌∷◌, ◌++◌, Bool, true, false, refl, sym, ◌∙◌, ap, subst, append_assoc, arith, drop}
 use Rattle.std.specs.Prelude.{fold, flat_map, if◌then◌else◌, ◌==◌, Some, slice_get, slice_set}
 use Rattle.std.proofs.lemmas.List.{append-nil, get_or-set_same, get_or-set_other}
+use Rattle.std.proofs.lemmas.Bool.{eqb-true, eqb-false}
 use Rattle.dmr_pdu.specs.declared.slots.Slot.{Slot}
 use Rattle.dmr_pdu.specs.declared.pdu.Pdu.{Pdu}
 use Rattle.dmr_plan.specs.declared.settings.Settings.{Settings}
@@ -21,9 +22,9 @@ use Rattle.dmr_core.specs.Sound.{IsSound}
 use Rattle.dmr_core.specs.May.{AllMayDo, MayDo, MayQueue}
 use Rattle.dmr_core.specs.Waiting.{queued_by, sent_by, is_turn_of_carrier, since_turn}
 use Rattle.dmr_core.proofs.PlanLemmas.{KnowsPlan}
-use Rattle.dmr_core.proofs.NumberLemmas.{equal_numbers, flipped, other_number}
-use Rattle.dmr_core.proofs.CallsAreApart.{same_slots}
-use Rattle.dmr_core.proofs.SlotsStaySound.{other_place, same_slot, within_boxes}
+use Rattle.dmr_core.proofs.NumberLemmas.{flipped}
+use Rattle.dmr_core.proofs.CallsAreApart.{same_slots, same_slot}
+use Rattle.dmr_core.proofs.SlotsStaySound.{other_place, within_boxes}
 use Rattle.dmr_core.proofs.ActsKeepSound.{sound-done}
 use Rattle.dmr_core.proofs.EventsKeepSound.{emptied_box, sound-noted}
 use Rattle.dmr_core.proofs.AnswersMayBeDone.{acts_may}
@@ -77,10 +78,10 @@ acts_pass plan there now (act ∷ acts) near p h may =
 
 -- the PDUs that wait after an event
 lower : (c d s : ℕ) → s < 2 → (c == d) ≡ false → 2 * d + s ≢ 2 * c
-lower c d s h e = λ same. other_number d c (flipped c d e) (omega arith)
+lower c d s h e = λ same. eqb-false d c (flipped c d e) (omega arith)
 
 upper : (c d s : ℕ) → s < 2 → (c == d) ≡ false → 2 * d + s ≢ 2 * c + 1
-upper c d s h e = λ same. other_number d c (flipped c d e) (omega arith)
+upper c d s h e = λ same. eqb-false d c (flipped c d e) (omega arith)
 
 kept_box : (boxes : List (List Pdu)) (c : ℕ) (there : Slot) → there.slot < 2 → (c == there.carrier) ≡ false → box (outboxes_without_carrier boxes c) there ≡ box boxes there
 kept_box boxes c there near e =
@@ -88,7 +89,7 @@ kept_box boxes c there near e =
     ∙ get_or-set_other boxes (2 * c) (place there) [] [] (lower c there.carrier there.slot near e)
 
 reset_turn : (there : Slot) (now : Facts) (c : ℕ) (b : Bool) → (c == there.carrier) ≡ b → there.slot < 2 → (before gone : List Pdu) → before ≡ gone ++ outbox now there → (if b then [] else before) ≡ (if b then [] else gone) ++ box (outboxes_without_carrier now.outboxes c) there
-reset_turn there now c true e near before gone h = sym (emptied_box now.outboxes c there near (sym (equal_numbers c there.carrier e)))
+reset_turn there now c true e near before gone h = sym (emptied_box now.outboxes c there near (sym (eqb-true c there.carrier e)))
 reset_turn there now c false e near before gone h = h ∙ ap (λ (xs : List Pdu). gone ++ xs) (sym (kept_box now.outboxes c there near e))
 
 turned : (plan : Settings) (there : Slot) (now : Facts) (event : Event) (before gone : List Pdu) → there.slot < 2 → before ≡ gone ++ outbox now there → (if is_turn_of_carrier there.carrier event then [] else before) ≡ (if is_turn_of_carrier there.carrier event then [] else gone) ++ outbox (facts_after_event plan now event) there

@@ -1,6 +1,6 @@
 -- An answer is at most 13 acts, and queues at most five PDUs on the control slot and four elsewhere.
 use Rattle.std.proofs.Common.{◌≡◌, ◌≤◌, ◌+◌, ℕ, zero, suc, List, [], ◌∷◌, ◌++◌, Bool, true, false, refl, arith, map}
-use Rattle.std.specs.Prelude.{Some, if◌then◌else◌, ◌&&◌, replicate, ◌==◌}
+use Rattle.std.specs.Prelude.{Option, Some, if◌then◌else◌, ◌&&◌, replicate, ◌==◌}
 use Rattle.std.proofs.lemmas.Bool.{and_parts, leb-true}
 use lib.Dec.{leb}
 use Rattle.std.proofs.lemmas.List.{length-append}
@@ -28,7 +28,7 @@ use Rattle.dmr_core.specs.declared.act.Act.{Act}
 use Rattle.dmr_core.specs.declared.act.Act.TheVariants.{AskOver, Asked, Began, Ended, Fill, Joined, Left, Lined, Queue, Send, Unlined}
 use Rattle.dmr_core.specs.Facts.{Facts, has_carrier}
 use Rattle.dmr_core.specs.Words.{has_room, is_registered, is_up, lowest_free, lpcn_of, outbox}
-use Rattle.dmr_core.specs.Rules.{ack, acts_of, ahoy, acts_for_called_radio, begin, call_of_line, acts_for_cancel, clear, close, answer_to_command, acts_for_due_call, grant, grant_pdu, acts_for_pdu, acts_for_individual_request, late_entry, acts_for_leaving, acts_for_new_call, acts_for_slot, acts_for_registration, acts_for_due_ask, acts_for_request, acts_for_outbox, acts_for_first_line, acts_for_talkgroup_request, acts_for_tick}
+use Rattle.dmr_core.specs.Rules.{ack, acts_of, ahoy, acts_for_called_radio, begin, call_of_line, acts_for_cancel, clear, close, answer_to_command, acts_for_due_call, grant, grant_pdu, acts_for_pdu, acts_for_individual_request, late_entry, acts_for_leaving, acts_for_new_call, acts_for_slot, acts_for_registration, acts_for_due_ask, acts_for_request, acts_for_outbox, acts_for_line, acts_for_talkgroup_request, acts_for_tick}
 use Rattle.dmr_core.specs.Sound.{IsSound, total}
 use Rattle.dmr_core.specs.Counts.{AreFewActs, elsewhere, on_control}
 use Rattle.dmr_core.proofs.PlanLemmas.{KnowsPlan}
@@ -107,8 +107,8 @@ short : (plan : Settings) (a b c : ℕ) → fits 2 1 0 a b c ≡ true → AreSho
 short plan a b c fit =
     let k = within 2 1 0 a b c fit in
     let acked : (s t reason : ℕ) → AreFewActs plan (ack plan s t reason) a b c = λ s t reason.
-        let h = one_few plan (Ackd 0 reason false s t) in
-        record { size = omega (arith, h.size); waiting = omega (arith, h.waiting); apart = omega (arith, h.apart) } in
+    let h = one_few plan (Ackd 0 reason false s t) in
+    record { size = omega (arith, h.size); waiting = omega (arith, h.waiting); apart = omega (arith, h.apart) } in
     let two : (act : Act) → on_control plan act ≡ 0 → elsewhere plan act ≡ 0 → (s t reason : ℕ) → AreFewActs plan (act ∷ ack plan s t reason) a b c =
     λ act x y s t reason. wider fit (plain act x y refl (one_few plan (Ackd 0 reason false s t))) in
     record {
@@ -214,31 +214,30 @@ module _ (plan : Settings) (p : KnowsPlan plan) where
   pdu_few now _ h = none_few
 
   -- a tick: the call, ask and line that are due
-  repeat_few : (now : Facts) → AreFewActs plan (acts_for_due_ask plan now) 2 1 0
+  repeat_few : (due : Option Ask) → AreFewActs plan (acts_for_due_ask plan due) 2 1 0
   unfolding acts_for_due_ask
-  repeat_few now =
+  repeat_few due =
       let k = short plan 2 1 0 refl in
       let again : (a b : Ask) → AreFewActs plan (Asked a ∷ ahoy plan b) 2 1 0 =
       λ a b. plain (Asked a) refl refl refl (one_few plan (Ahoy b.options false individual_voice b.target b.source)) in
       let none : AreFewActs plan [] 2 1 0 = none_few in
       grind (arith, again, k.over, none)
 
-  serve_few : (now : Facts) → AreFewActs plan (acts_for_first_line plan now) 6 4 0
-  unfolding acts_for_first_line
-  serve_few now =
-      by_option (λ acts. AreFewActs plan acts 6 4 0) _ (first_line now.lines) [] (λ l e. by_option (λ acts. AreFewActs plan acts 6 4 0) _ (lowest_free plan now) []
+  serve_few : (now : Facts) (first : Option Line) → AreFewActs plan (acts_for_line plan now first) 6 4 0
+  unfolding acts_for_line
+  serve_few now first =
+      by_option (λ acts. AreFewActs plan acts 6 4 0) _ first [] (λ l e. by_option (λ acts. AreFewActs plan acts 6 4 0) _ (lowest_free plan now) []
       (λ slot d. plain (Unlined l.source) refl refl refl (begin_few (call_of_line l slot))) none_few) none_few
 
-  ended_few : (now : Facts) → IsSound plan now → AreFewActs plan (acts_for_due_call plan now.calls) 5 0 4
+  ended_few : (now : Facts) (due : Option Slot) → IsSound plan now → AreFewActs plan (acts_for_due_call plan now.calls due) 5 0 4
   unfolding acts_for_due_call
-  ended_few now h =
-      by_option (λ acts. AreFewActs plan acts 5 0 4) _ (due_call plan.hang plan.maximum now.calls) []
-      (λ slot e. by_option (λ acts. AreFewActs plan acts 5 0 4) _ (call_on now.calls slot) []
+  ended_few now due h =
+      by_option (λ acts. AreFewActs plan acts 5 0 4) _ due [] (λ slot e. by_option (λ acts. AreFewActs plan acts 5 0 4) _ (call_on now.calls slot) []
       (λ call k. clear_few now call h (found_is_active (λ s. is_slot s.call.slot slot) now.calls call h.calls.apart k)) none_few) none_few
 
   tick_few : (now : Facts) → IsSound plan now → AreFewActs plan (acts_for_tick plan now) 13 5 4
   unfolding acts_for_tick
-  tick_few now h = joint (ended_few now h) (if_few plan (has_room plan now) _ 8 5 0 (joint (repeat_few now) (serve_few now)))
+  tick_few now h = joint (ended_few now _ h) (if_few plan (has_room plan now) _ 8 5 0 (joint (repeat_few _) (serve_few now _)))
 
   -- commands
   commanded_few : (now : Facts) (command : Command) → IsSound plan now → AreFewActs plan (answer_to_command plan now command).list 13 5 4

@@ -1,6 +1,6 @@
 -- The acts of each rule may be done.
 use Rattle.std.proofs.Common.{◌≡◌, ◌<◌, ◌≤◌, ◌+◌, ℕ, List, [], ◌∷◌, ◌++◌, Bool, true, false, refl, sym, ◌∙◌, ap, subst, arith, map, length, drop}
-use Rattle.std.specs.Prelude.{fold, Some, None, if◌then◌else◌, ◌&&◌, not, find, option_map, ◌==◌, nat_le, nat_lt}
+use Rattle.std.specs.Prelude.{fold, Option, Some, None, if◌then◌else◌, ◌&&◌, not, find, option_map, ◌==◌, nat_le, nat_lt}
 use Rattle.std.specs.List.{list_any}
 use Rattle.std.proofs.lemmas.Bool.{false_from_ne_true, and_parts}
 use Rattle.std.proofs.lemmas.Bool.Decides.{nat_tests}
@@ -30,7 +30,7 @@ use Rattle.dmr_core.specs.declared.act.Act.{Act}
 use Rattle.dmr_core.specs.declared.act.Act.TheVariants.{AskOver, Asked, Fill, Joined, Left, Queue, Unlined}
 use Rattle.dmr_core.specs.Facts.{Facts, facts_after_act, facts_after_event, has_carrier}
 use Rattle.dmr_core.specs.Words.{has_room, is_engaged, is_free, is_registered, is_up, lowest_free, lpcn_of, outbox, has_call_on}
-use Rattle.dmr_core.specs.Rules.{ack, acts_of, ahoy, acts_for_called_radio, begin, call_of_line, acts_for_cancel, clear, close, answer_to_command, acts_for_due_call, grant, acts_for_pdu, acts_for_individual_request, late_entry, acts_for_leaving, acts_for_new_call, acts_for_slot, acts_for_registration, acts_for_due_ask, acts_for_request, acts_for_outbox, acts_for_first_line, acts_for_talkgroup_request, acts_for_tick}
+use Rattle.dmr_core.specs.Rules.{ack, acts_of, ahoy, acts_for_called_radio, begin, call_of_line, acts_for_cancel, clear, close, answer_to_command, acts_for_due_call, grant, acts_for_pdu, acts_for_individual_request, late_entry, acts_for_leaving, acts_for_new_call, acts_for_slot, acts_for_registration, acts_for_due_ask, acts_for_request, acts_for_outbox, acts_for_line, acts_for_talkgroup_request, acts_for_tick}
 use Rattle.dmr_core.specs.Sound.{IsSound, engagements, engagements_in_ask, engagements_in_line, is_grant, party}
 use Rattle.dmr_core.specs.May.{AllMayDo, MayDo, MayEngage}
 use Rattle.dmr_core.proofs.PlanLemmas.{KnowsPlan}
@@ -97,8 +97,8 @@ module _ (plan : Settings) (now : Facts) (c : MayAnswer plan now 8) where
       let leaves = leaving_may q in
       let joins : is_registered now q.source ≡ false → nat_le 4096 (length now.registered) ≡ false
       → AllMayDo plan now (Joined q.source ∷ ack plan q.source q.target 0x62) = λ new few.
-          let may : MayDo plan now (Joined q.source) = (new, grind (arith, nat_tests)) in
-          ack_after c (omega arith) (Joined q.source) may refl q.source q.target 0x62 in
+      let may : MayDo plan now (Joined q.source) = (new, grind (arith, nat_tests)) in
+      ack_after c (omega arith) (Joined q.source) may refl q.source q.target 0x62 in
       grind (arith, leaves, joins, acked)
 
   asked_may : (ask : Ask) → (ask.target == ask.source) ≡ false → is_registered now ask.source ≡ true → is_registered now ask.target ≡ true
@@ -138,9 +138,11 @@ module _ (plan : Settings) (now : Facts) (c : MayAnswer plan now 8) where
       let l : Line = record { source = a.source; target = a.target; group = false } in
       let later : Facts = facts_after_act now (AskOver a.source) in
       let e : MayEngage plan now (others_than a.source now.asks) false a.source a.target = ask_engage plan now _ a c.sound found in
-      let engaged : MayEngage plan later later.asks false a.source a.target = assumption e in
-      (tt, subst (AllMayDo plan later) (sym (new_call_same plan now a.source l))
-          (new_call_may plan later 8 (after c (AskOver a.source) tt refl) (omega arith) l engaged))
+      let engaged : MayEngage plan later later.asks false a.source a.target = assumption e in (
+        tt,
+        subst (AllMayDo plan later) (sym (new_call_same plan now a.source l))
+            (new_call_may plan later 8 (after c (AskOver a.source) tt refl) (omega arith) l engaged),
+      )
   taken_may called a false found = ack_after c (omega arith) (AskOver a.source) tt refl a.source a.target 0x2E
 
   answered_may : (reason called : ℕ) → AllMayDo plan now (acts_for_called_radio plan now reason called)
@@ -242,11 +244,11 @@ call_clears plan now call p h stands =
       asks = ap (λ (f : Facts). f.asks) c.same;
     }
 
-ended_clears : (plan : Settings) (now : Facts) → KnowsPlan plan → IsSound plan now → Clears plan now (acts_for_due_call plan now.calls)
+due_clears : (plan : Settings) (now : Facts) (due : Option Slot) → KnowsPlan plan → IsSound plan now
+    → Clears plan now (acts_for_due_call plan now.calls due)
 unfolding acts_for_due_call
-ended_clears plan now p h =
-    by_option (Clears plan now) _ (due_call plan.hang plan.maximum now.calls) []
-    (λ slot e. by_option (Clears plan now) _ (call_on now.calls slot) []
+due_clears plan now due p h =
+    by_option (Clears plan now) _ due [] (λ slot e. by_option (Clears plan now) _ (call_on now.calls slot) []
     (λ call k. call_clears plan now call p h (found_is_active (λ s. is_slot s.call.slot slot) now.calls call h.calls.apart k))
     (none_clears plan now)) (none_clears plan now)
 
@@ -287,8 +289,8 @@ served_may plan now later call p h ready room line found =
     )
 
 serve_may : (plan : Settings) (now later : Facts) → KnowsPlan plan → IsSound plan later → IsReady plan now later
-    → length (outbox later (control_slot plan)) ≤ 57 → AllMayDo plan later (acts_for_first_line plan now)
-unfolding acts_for_first_line
+    → length (outbox later (control_slot plan)) ≤ 57 → AllMayDo plan later (acts_for_line plan now (first_line now.lines))
+unfolding acts_for_line
 serve_may plan now later p h ready room =
     by_option (AllMayDo plan later) _ (first_line now.lines) []
     (λ l line. by_option (AllMayDo plan later) _ (lowest_free plan now) []
@@ -363,32 +365,36 @@ module _ (plan : Settings) (now : Facts) (p : KnowsPlan plan) (h : IsSound plan 
         ready = ready_to_queue plan now _ pdu refl;
       }
 
-repeat_repeats : (plan : Settings) (now later : Facts) → KnowsPlan plan → IsSound plan later → later.asks ≡ now.asks
-    → length (outbox later (control_slot plan)) ≤ 56 → Repeats plan later (acts_for_due_ask plan now)
+due_repeats : (plan : Settings) (now : Facts) (wait : ℕ) → KnowsPlan plan → IsSound plan now
+    → length (outbox now (control_slot plan)) ≤ 56 → Repeats plan now (acts_for_due_ask plan (due_ask wait now.asks))
 unfolding acts_for_due_ask
-repeat_repeats plan now later p h same room =
-    by_option (Repeats plan later) _ (due_ask plan.ahoy_wait now.asks) []
-    (λ ask k. let found = due_found plan.ahoy_wait later.asks ask (rw same k) in
-    by_if (Repeats plan later) (nat_lt ask.attempt plan.ahoy_tries) _ _ (again_repeats plan later p h room ask found (ask.attempt + 1)) (over_repeats plan later p h room ask found))
+due_repeats plan now wait p h room =
+    by_option (Repeats plan now) _ (due_ask wait now.asks) []
+    (λ ask k. let found = due_found wait now.asks ask k in
+    by_if (Repeats plan now) (nat_lt ask.attempt plan.ahoy_tries) _ _ (again_repeats plan now p h room ask found (ask.attempt + 1)) (over_repeats plan now p h room ask found))
     (record { leaves = record { may = tt; up = refl; room = omega arith }; ready = record { lines = refl; free = λ slot also f. f } })
 
 both_may : (plan : Settings) (now later : Facts) → KnowsPlan plan → IsSound plan later → IsReady plan now later → later.asks ≡ now.asks
-    → length (outbox later (control_slot plan)) ≤ 56 → AllMayDo plan later (acts_for_due_ask plan now ++ acts_for_first_line plan now)
+    → length (outbox later (control_slot plan)) ≤ 56
+    → AllMayDo plan later (acts_for_due_ask plan (due_ask plan.ahoy_wait now.asks) ++ acts_for_line plan now (first_line now.lines))
 both_may plan now later p h ready same room =
-    let c : Repeats plan later (acts_for_due_ask plan now) = repeat_repeats plan now later p h same room in
-    let still : IsReady plan now (fold facts_after_act later (acts_for_due_ask plan now)) =
+    let asks : List Act = acts_for_due_ask plan (due_ask plan.ahoy_wait now.asks) in
+    let c : Repeats plan later asks =
+    subst (λ (xs : List ActiveAsk). Repeats plan later (acts_for_due_ask plan (due_ask plan.ahoy_wait xs))) same (due_repeats plan later plan.ahoy_wait p h room) in
+    let still : IsReady plan now (fold facts_after_act later asks) =
     record { lines = c.ready.lines ∙ ready.lines; free = λ slot also f. c.ready.free slot also (ready.free slot also f) } in
-    may-append plan (acts_for_due_ask plan now) (acts_for_first_line plan now) later c.leaves.may
-    (serve_may plan now _ p (sound-acts plan later (acts_for_due_ask plan now) p h c.leaves.may) still (omega (arith, c.leaves.room)))
+    may-append plan asks (acts_for_line plan now (first_line now.lines)) later c.leaves.may
+    (serve_may plan now _ p (sound-acts plan later asks p h c.leaves.may) still (omega (arith, c.leaves.room)))
 
 tick_may : (plan : Settings) (now : Facts) → KnowsPlan plan → IsSound plan now → AllMayDo plan now (acts_for_tick plan now)
 unfolding acts_for_tick
 tick_may plan now p h =
-    let due : List Act = acts_for_due_call plan now.calls in
-    let c : Clears plan now due = ended_clears plan now p h in
-    may-append plan due (if has_room plan now then acts_for_due_ask plan now ++ acts_for_first_line plan now else []) now c.leaves.may
-    (if_may plan (fold facts_after_act now due) (has_room plan now) (acts_for_due_ask plan now ++ acts_for_first_line plan now)
-    (λ k. both_may plan now (fold facts_after_act now due) p (sound-acts plan now due p h c.leaves.may) c.ready c.asks (omega (arith, c.leaves.room, room_is plan now k))))
+    let due : List Act = acts_for_due_call plan now.calls (due_call plan.hang plan.maximum now.calls) in
+    let c : Clears plan now due = due_clears plan now _ p h in
+    let later : Facts = fold facts_after_act now due in
+    may-append plan due _ now c.leaves.may
+    (if_may plan later (has_room plan now) _
+    (λ k. both_may plan now later p (sound-acts plan now due p h c.leaves.may) c.ready c.asks (omega (arith, c.leaves.room, room_is plan now k))))
 
 -- polls
 module _ (plan : Settings) (now later : Facts) (slot : Slot) where
@@ -422,8 +428,8 @@ polls_may plan now c up =
     let later : Facts = facts_after_event plan now (Poll c) in
     let last : Facts = fold facts_after_act later (acts_for_outbox plan now first (outbox now first)) in
     let fills : is_slot first (control_slot plan) ≡ true → MayDo plan later (Fill first (fill_of plan now.moving now.noise now.fills (late_entry plan now))) = λ k.
-        let there : first ≡ control_slot plan = same_slot first (control_slot plan) k in
-        fill_may plan now c first there (subst (λ (s : Slot). is_up now s.carrier ≡ true) there up) in
+    let there : first ≡ control_slot plan = same_slot first (control_slot plan) k in
+    fill_may plan now c first there (subst (λ (s : Slot). is_up now s.carrier ≡ true) there up) in
     may-append plan (acts_for_outbox plan now first (outbox now first)) (acts_for_outbox plan now second (outbox now second)) later
     (sent_may plan now later first (outbox now first) refl up (omega arith) fills)
     (sent_may plan now last second (outbox now second)

@@ -144,26 +144,26 @@ close_closes plan now r p h room =
       gone = ask_gone plan now r h (λ x. x.ask.source == r) a (λ x e. rw e refl) k;
     } in
     let asks_to : (a : Ask) → ask_to now.asks r ≡ Some a → Closes plan now r (AskOver a.source ∷ ack plan a.source a.target 0x24) = λ a k.
-        let up = found_up (λ (xs : List ActiveAsk). ask_to xs r) _ now.asks a refl h.asks.none k in record {
-          leaves = record {
-            may = ack_after (answered up) (omega arith) (AskOver a.source) tt refl a.source a.target 0x24;
-            up = refl;
-            room = one_queued (facts_after_act now (AskOver a.source)) (control_slot plan) (Ackd 0 0x24 false a.source a.target);
-          };
-          gone = ask_gone plan now r h (λ x. x.ask.target == r) a (λ x e. or_right _ _ e) k;
-        } in
+    let up = found_up (λ (xs : List ActiveAsk). ask_to xs r) _ now.asks a refl h.asks.none k in record {
+      leaves = record {
+        may = ack_after (answered up) (omega arith) (AskOver a.source) tt refl a.source a.target 0x24;
+        up = refl;
+        room = one_queued (facts_after_act now (AskOver a.source)) (control_slot plan) (Ackd 0 0x24 false a.source a.target);
+      };
+      gone = ask_gone plan now r h (λ x. x.ask.target == r) a (λ x e. or_right _ _ e) k;
+    } in
     let lines : (l : Line) → line_of now.lines r ≡ Some l → Closes plan now r (Unlined l.source ∷ []) = λ l k. record {
       leaves = record { may = (tt, tt); up = refl; room = omega arith };
       gone = line_gone plan now r h (λ x. x.source == r) l (λ x e. rw e refl) k;
     } in
     let lines_to : (l : Line) → line_to now.lines r ≡ Some l → Closes plan now r (Unlined l.source ∷ ack plan l.source l.target 0x24) = λ l k.
-        let up = found_up (λ (xs : List Line). line_to xs r) _ now.lines l refl h.lines.none k in record {
-          leaves = record {
-            may = ack_after (answered up) (omega arith) (Unlined l.source) tt refl l.source l.target 0x24;
-            up = refl;
-            room = one_queued (facts_after_act now (Unlined l.source)) (control_slot plan) (Ackd 0 0x24 false l.source l.target);
-          };
-          gone = line_gone plan now r h (λ x. not x.group && (x.target == r)) l (λ x e. or_right _ _ e) k;
-        } in
+    let up = found_up (λ (xs : List Line). line_to xs r) _ now.lines l refl h.lines.none k in record {
+      leaves = record {
+        may = ack_after (answered up) (omega arith) (Unlined l.source) tt refl l.source l.target 0x24;
+        up = refl;
+        room = one_queued (facts_after_act now (Unlined l.source)) (control_slot plan) (Ackd 0 0x24 false l.source l.target);
+      };
+      gone = line_gone plan now r h (λ x. not x.group && (x.target == r)) l (λ x e. or_right _ _ e) k;
+    } in
     let none = none_closes plan now r h in
     grind (arith, calls, asks, asks_to, lines, lines_to, none)

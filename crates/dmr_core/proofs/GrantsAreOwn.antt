@@ -92,18 +92,18 @@ pub own_of : (plan : Settings) (now : Facts) (slot : Slot) (call other : Call) (
 own_of plan now slot call other late p h here there =
     elim (cases_Bool ((lpcn_of plan other.slot.carrier == lpcn_of plan call.slot.carrier) && (other.slot.slot == call.slot.slot))) [
       | inl e ↦ (
-        let parts = and_parts _ _ e in
-        let on = call_is_active now.calls slot call here in
-        let on_other = call_is_active now.calls other.slot other there in
-        let known = subst (λ (x : Slot). has_carrier plan x.carrier ≡ true) (sym on.1) (h.calls.payload slot on.0).known in
-        let carriers : other.slot.carrier ≡ call.slot.carrier =
-        p.channels _ _ (h.calls.payload other.slot on_other.0).known known (eqb-true _ _ parts.0) in
-        let numbers : other.slot.slot ≡ call.slot.slot = eqb-true _ _ parts.1 in
-        let slots : other.slot ≡ call.slot = λ i. record { carrier = carriers i; slot = numbers i } in
-        let both : Some other ≡ Some call = sym there ∙ ap (λ (x : Slot). call_on now.calls x) (slots ∙ on.1) ∙ here in
-        let same : other ≡ call = cc in
-        rw same (own_itself plan call late)
-      )
+          let parts = and_parts _ _ e in
+          let on = call_is_active now.calls slot call here in
+          let on_other = call_is_active now.calls other.slot other there in
+          let known = subst (λ (x : Slot). has_carrier plan x.carrier ≡ true) (sym on.1) (h.calls.payload slot on.0).known in
+          let carriers : other.slot.carrier ≡ call.slot.carrier =
+          p.channels _ _ (h.calls.payload other.slot on_other.0).known known (eqb-true _ _ parts.0) in
+          let numbers : other.slot.slot ≡ call.slot.slot = eqb-true _ _ parts.1 in
+          let slots : other.slot ≡ call.slot = λ i. record { carrier = carriers i; slot = numbers i } in
+          let both : Some other ≡ Some call = sym there ∙ ap (λ (x : Slot). call_on now.calls x) (slots ∙ on.1) ∙ here in
+          let same : other ≡ call = cc in
+          rw same (own_itself plan call late)
+          )
       | inr e ↦ elim (cases_Bool other.group) [ inl d ↦ rw (d, e) refl | inr d ↦ rw (d, e) refl ]
     ]
 

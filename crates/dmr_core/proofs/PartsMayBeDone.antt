@@ -185,9 +185,9 @@ engage plan now asks group source target h fewer apart registered also free idle
   parties = λ r. each_party (λ x. is_registered now x ≡ true) r group source target registered also;
   once = λ r. elim (cases_lt 0 (party r group source target)) [
     | inl k ↦ (
-      let none = not_engaged now r (each_party (λ x. is_engaged now x ≡ false) r group source target free idle k) in
-      omega (arith, fewer r, one_party r group source target apart)
-    )
+        let none = not_engaged now r (each_party (λ x. is_engaged now x ≡ false) r group source target free idle k) in
+        omega (arith, fewer r, one_party r group source target apart)
+        )
     | inr k ↦ omega (arith, h.radios.once r, fewer r)
   ];
   listed = listed;

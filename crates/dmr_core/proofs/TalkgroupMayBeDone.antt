@@ -41,14 +41,14 @@ module _ (plan : Settings) (now : Facts) (n : ℕ) (c : MayAnswer plan now n) (f
   unfolding acts_for_new_call
   new_call_may l engage =
       let begun : (slot : Slot) → slot_for_new_call plan now ≡ Some slot → AllMayDo plan now (begin plan (call_of_line l slot)) = λ slot k.
-          let found = new_lowest plan now slot k in
-          let free = lowest_is_free plan now slot found in
-          let small = lowest_small plan now slot found in
-          begin_may c four (call_of_line l slot)
-          (record { free = free; small = small; few = few_with_free plan now slot c.known c.sound free small; engage = engage }) in
+      let found = new_lowest plan now slot k in
+      let free = lowest_is_free plan now slot found in
+      let small = lowest_small plan now slot found in
+      begin_may c four (call_of_line l slot)
+      (record { free = free; small = small; few = few_with_free plan now slot c.known c.sound free small; engage = engage }) in
       let lined : nat_lt (length now.lines) 32 ≡ true → AllMayDo plan now (Lined l ∷ ack plan l.source l.target 0xA0) = λ few.
-          let may : MayDo plan now (Lined l) = (c.up, grind (arith, nat_tests), engage) in
-          ack_after c (omega arith) (Lined l) may refl l.source l.target 0xA0 in
+      let may : MayDo plan now (Lined l) = (c.up, grind (arith, nat_tests), engage) in
+      ack_after c (omega arith) (Lined l) may refl l.source l.target 0xA0 in
       grind (arith, begun, lined, acked)
 
   pub talkgroup_may : (q : Request) → is_registered now q.source ≡ true → AllMayDo plan now (acts_for_talkgroup_request plan now q)

@@ -28,7 +28,7 @@ use Rattle.dmr_core.proofs.SlotsStaySound.{other_place, within_boxes}
 use Rattle.dmr_core.proofs.ActsKeepSound.{sound-done}
 use Rattle.dmr_core.proofs.EventsKeepSound.{emptied_box, sound-noted}
 use Rattle.dmr_core.proofs.AnswersMayBeDone.{acts_may}
-use Rattle.dmr_core.proofs.ActsAreSafe.{sound_after}
+use Rattle.dmr_core.proofs.ActsAreSafe.{entered}
 use Rattle.dmr_core.proofs.FactsFollowEntries.{facts_after-step}
 
 -- another slot's outbox changes nothing there
@@ -101,16 +101,14 @@ pub sent_then_waits : (plan : Settings) (facts : Facts) (there : Slot) (journal 
 sent_then_waits plan facts there [] near p h legal = refl
 sent_then_waits plan facts there (entry ∷ earlier) near p h legal =
     let now : Facts = facts_after plan facts earlier in
-    let sound : IsSound plan now = sound_after plan facts earlier p h legal.1 in
+    let e = entered plan facts entry earlier p h legal in
     let after : Facts = facts_after_event plan now entry.event in
     let w : List Pdu = outbox after there in
     let last : List Pdu = outbox (fold facts_after_act after entry.acts.list) there in
     let more : List Pdu = flat_map (queued_by there) entry.acts.list in
     let gone : List Pdu = flat_map (sent_by there) entry.acts.list in
     let before : List Pdu = if is_turn_of_carrier there.carrier entry.event then [] else since_turn there.carrier (sent_by there) [] earlier in
-    let passes : w ++ more ≡ gone ++ last =
-    subst (λ (acts : Acts). outbox after there ++ flat_map (queued_by there) acts.list ≡ flat_map (sent_by there) acts.list ++ outbox (fold facts_after_act after acts.list) there) (sym legal.0)
-    (acts_pass plan there after (acts_of plan now entry.event) near p (sound-noted plan now entry.event p sound) (acts_may plan now entry.event p sound)) in
+    let passes : w ++ more ≡ gone ++ last = acts_pass plan there after entry.acts.list near p e.noted e.may in
     ap (λ (xs : List Pdu). xs ++ more)
     (turned plan there now entry.event (since_turn there.carrier (queued_by there) (outbox facts there) earlier) (since_turn there.carrier (sent_by there) [] earlier) near (sent_then_waits plan facts there earlier near p h legal.1))
     ∙ append_assoc before w more

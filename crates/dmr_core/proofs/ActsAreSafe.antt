@@ -1,13 +1,12 @@
 -- The safety laws.
-use Rattle.std.proofs.Common.{◌≡◌, ◌<◌, ◌≤◌, ℕ, List, [], ◌∷◌, ◌++◌, Bool, true, false, refl, sym, ◌∙◌, ap, subst, arith, filter, inl, inr}
-use Rattle.std.specs.Prelude.{fold, option_map, Option, Some, cond, ◌&&◌, not, find, ◌==◌, ◌||◌, slice_get}
+use Rattle.std.proofs.Common.{◌≡◌, ◌<◌, ℕ, List, [], ◌∷◌, ◌++◌, Bool, true, false, refl, sym, ◌∙◌, ap, subst, arith, filter, inl, inr}
+use Rattle.std.specs.Prelude.{fold, option_map, Some, ◌&&◌, not, find, ◌==◌, ◌||◌, slice_get}
 use Rattle.std.specs.List.{list_any, list_all}
 use Rattle.std.proofs.lemmas.Bool.{and_parts, cases_Bool, eqb-true, false_from_ne_true, not-true}
 use Rattle.dmr_pdu.specs.declared.slots.Slot.{Slot}
 use Rattle.dmr_pdu.specs.declared.pdu.Pdu.{Pdu}
 use Rattle.dmr_pdu.specs.declared.pdu.Pdu.TheVariants.{PvGrant, TvGrant}
 use Rattle.dmr_plan.specs.declared.settings.Settings.{Settings}
-use Rattle.dmr_plan.specs.Plan.{lists_group}
 use Rattle.dmr_calls.specs.declared.call.Call.{Call}
 use Rattle.dmr_calls.specs.declared.call.ActiveCall.{ActiveCall}
 use Rattle.dmr_calls.specs.Calls.{call_on, one_tick_older, is_slot, just_begun, with_activity}
@@ -17,13 +16,12 @@ use Rattle.dmr_core.specs.declared.event.Event.TheVariants.{Active, Lost, Tick, 
 use Rattle.dmr_core.specs.declared.act.Act.{Act}
 use Rattle.dmr_core.specs.declared.act.Act.TheVariants.{Began, Ended, Fill, Queue, Send}
 use Rattle.dmr_core.specs.declared.act.Acts.{Acts}
-use Rattle.dmr_core.specs.declared.reply.Reply.{Reply}
 use Rattle.dmr_core.specs.declared.entry.Entry.{Entry}
 use Rattle.dmr_core.specs.Facts.{Facts, facts_after_act, facts_after, has_carrier, facts_after_event}
 use Rattle.dmr_core.specs.Words.{is_registered, lpcn_of, outbox}
 use Rattle.dmr_core.specs.Rules.{acts_of, grant_pdu}
 use Rattle.dmr_core.specs.Journal.{IsLegal}
-use Rattle.dmr_core.specs.Sound.{IsSound, engagements_in_call, is_grant, is_own, party, total}
+use Rattle.dmr_core.specs.Sound.{IsSound, engagements_in_call, is_grant, is_own, party}
 use Rattle.dmr_core.specs.May.{AllMayDo, MayDo, MayName}
 use Rattle.dmr_core.specs.Laws.{BeginsOnFree, EachAct, GrantsKnown, NamesKnown, QuietActs, QuietAfterReset, SendsOwn, Throughout, grants_on, has_call, is_reset, names_carrier, reset_by_act, reset_by_event}
 use Rattle.dmr_core.proofs.PlanLemmas.{KnowsPlan}
@@ -50,7 +48,8 @@ entered_from plan now entry p before legal = record {
 }
 
 -- sound facts stay sound
-pub sound_after : (plan : Settings) (facts : Facts) (journal : List Entry) → KnowsPlan plan → IsSound plan facts → IsLegal plan facts journal
+pub sound_after : (plan : Settings) (facts : Facts) (journal : List Entry) → KnowsPlan plan → IsSound plan facts →
+    IsLegal plan facts journal
     → IsSound plan (facts_after plan facts journal)
 sound_after plan facts [] p h legal = h
 sound_after plan facts (entry ∷ earlier) p h legal =
@@ -61,16 +60,19 @@ sound_after plan facts (entry ∷ earlier) p h legal =
 pub entered : (plan : Settings) (facts : Facts) (entry : Entry) (earlier : List Entry) → KnowsPlan plan → IsSound plan facts
     → IsLegal plan facts (entry ∷ earlier) → IsEntered plan (facts_after plan facts earlier) entry
 entered plan facts entry earlier p h legal =
-    entered_from plan (facts_after plan facts earlier) entry p (sound_after plan facts earlier p h legal.1) (ap (λ (acts : Acts). acts.list) legal.0)
+    entered_from plan (facts_after plan facts earlier) entry p (sound_after plan facts earlier p h legal.1)
+    (ap (λ (acts : Acts). acts.list) legal.0)
 
 -- a statement about each act that may be done, at sound facts, holds throughout a legal journal
-module _ (plan : Settings) (P : Facts → Act → Type 0) (each : (now : Facts) (act : Act) → IsSound plan now → MayDo plan now act → P now act) (p : KnowsPlan plan) where
+module _ (plan : Settings) (P : Facts → Act → Type 0) (each : (now : Facts) (act : Act) → IsSound plan now → MayDo plan now act → P now act)
+    (p : KnowsPlan plan) where
   each_act : (now : Facts) (acts : List Act) → IsSound plan now → AllMayDo plan now acts → EachAct P now acts
   each_act now [] h may = tt
   each_act now (act ∷ acts) h may =
       (each now act h may.0, each_act (facts_after_act now act) acts (sound-done plan now act p h may.0) may.1)
 
-  throughout_from : (facts : Facts) (journal : List Entry) → IsSound plan facts → IsLegal plan facts journal → Throughout plan facts P journal
+  throughout_from : (facts : Facts) (journal : List Entry) → IsSound plan facts → IsLegal plan facts journal →
+      Throughout plan facts P journal
   throughout_from facts [] h legal = tt
   throughout_from facts (entry ∷ earlier) h legal =
       let e = entered plan facts entry earlier p h legal in
@@ -83,7 +85,8 @@ throughout plan facts P each journal p h legal = throughout_from plan P each p f
 
 -- a call begins on a free slot
 pub begins_on_free : (plan : Settings) (now : Facts) (act : Act) → IsSound plan now → MayDo plan now act → BeginsOnFree now act
-begins_on_free plan now (Began call) h may = let free : IsFree plan now call.slot = free_is plan now call.slot may.free in (free.none, free.up)
+begins_on_free plan now (Began call) h may =
+    let free : IsFree plan now call.slot = free_is plan now call.slot may.free in (free.none, free.up)
 begins_on_free plan now act h may = tt
 
 pub source_counts : (group : Bool) (source target : ℕ) → 0 < party source group source target
@@ -106,7 +109,8 @@ module _ (plan : Settings) (now : Facts) (h : IsSound plan now) where
   party_known call r stands k =
       let test : ActiveCall → Bool = λ x. is_slot x.call.slot call.slot in
       let s = mapped_some _ (find test now.calls) call stands in
-      let same : engagements_in_call r s.0 ≡ party r call.group call.source call.target = ap (λ (c : Call). party r c.group c.source c.target) s.2 in
+      let same : engagements_in_call r s.0 ≡ party r call.group call.source call.target =
+      ap (λ (c : Call). party r c.group c.source c.target) s.2 in
       h.radios.parties r (omega (arith, total_some (engagements_in_call r) test now.calls s.0 s.1))
 
   call_known : (call : Call) (late : Bool) → call_on now.calls call.slot ≡ Some call → NamesKnown plan now (grant_pdu plan call late)
@@ -114,7 +118,8 @@ module _ (plan : Settings) (now : Facts) (h : IsSound plan now) where
       let source = party_known call call.source stands (source_counts call.group call.source call.target) in
       elim (cases_Bool call.group) [
         | inl e ↦ (
-            let group = active_has (λ x. is_slot x.call.slot call.slot) (λ c. c.group && (c.target == call.target)) now.calls call stands (rw (e, equal_itself call.target) refl) in
+            let group = active_has (λ x. is_slot x.call.slot call.slot) (λ c. c.group && (c.target == call.target)) now.calls call stands
+            (rw (e, equal_itself call.target) refl) in
             rw e (source, h.calls.listed call.target group)
             )
         | inr e ↦ rw e (source, party_known call call.target stands (rw e (target_counts call.source call.target)))
@@ -136,8 +141,11 @@ module _ (plan : Settings) (now : Facts) (h : IsSound plan now) where
       let found : find (λ (x : Pdu). true) (outbox now there) ≡ Some pdu = sym (first_found (outbox now there)) ∙ first in
       elim (cases_Bool (is_slot there (control_slot plan))) [
         | inl e ↦ all_found (is_own plan call) (outbox now there) pdu found
-            (subst (λ (x : Slot). list_all (is_own plan call) (outbox now x) ≡ true) (sym (same_slot there (control_slot plan) e)) (h.calls.own slot call stands))
-        | inr e ↦ not_grant_own plan call pdu (false_from_ne_true _ (λ k. true_false _ (find_any (λ x. true) is_grant (outbox now there) pdu found k) (h.pool.elsewhere there small e)))
+            (subst (λ (x : Slot). list_all (is_own plan call) (outbox now x) ≡ true) (sym (same_slot there (control_slot plan) e))
+            (h.calls.own slot call stands))
+        | inr e ↦ not_grant_own plan call pdu
+            (false_from_ne_true _ (λ k. true_false _ (find_any (λ x. true) is_grant (outbox now there) pdu found k)
+            (h.pool.elsewhere there small e)))
       ]
     where
       all_found : (p : Pdu → Bool) (xs : List Pdu) (x : Pdu) → find (λ (x : Pdu). true) xs ≡ Some x → list_all p xs ≡ true → p x ≡ true
@@ -149,7 +157,8 @@ grants_known plan now (Queue slot pdu) h may = named_known plan now h slot pdu (
 grants_known plan now (Fill slot pdu) h may = named_known plan now h slot pdu (is_grant pdu) refl may.names
 grants_known plan now act h may = tt
 
-grant_names : (plan : Settings) (call : Call) (late : Bool) → names (lpcn_of plan call.slot.carrier) call.slot.slot (grant_pdu plan call late) ≡ true
+grant_names : (plan : Settings) (call : Call) (late : Bool) → names (lpcn_of plan call.slot.carrier) call.slot.slot
+    (grant_pdu plan call late) ≡ true
 grant_names plan call late =
     let named : ((lpcn_of plan call.slot.carrier == lpcn_of plan call.slot.carrier) && (call.slot.slot == call.slot.slot)) ≡ true =
     rw (equal_itself (lpcn_of plan call.slot.carrier), equal_itself call.slot.slot) refl in
@@ -162,7 +171,8 @@ filled_own plan now slot pdu true e may k =
     (may.1.call, may.1.stands, rw may.1.is (own_itself plan may.1.call may.1.late), rw may.1.is (grant_names plan may.1.call may.1.late))
 filled_own plan now slot pdu false e may k = cc
 
-pub sends_own : (plan : Settings) → KnowsPlan plan → (now : Facts) (act : Act) → IsSound plan now → MayDo plan now act → SendsOwn plan now act
+pub sends_own : (plan : Settings) → KnowsPlan plan → (now : Facts) (act : Act) → IsSound plan now → MayDo plan now act →
+    SendsOwn plan now act
 sends_own plan p now (Send there pdu) h may = λ slot call k. sent_own plan now h there slot pdu call may.1 may.2 k
 sends_own plan p now (Fill there pdu) h may = (
   λ slot call k. named_own plan now slot there call pdu (is_grant pdu) p h k refl may.names,
@@ -185,13 +195,15 @@ quiet_act c b now act h k = h k
 quiet_reset : (c d : ℕ) (b : Bool) (cs : List ActiveCall) → (b ≡ true → has_call cs c ≡ false) → (b || (d == c)) ≡ true
     → has_call (filter (λ s. not (s.call.slot.carrier == d)) cs) c ≡ false
 quiet_reset c d true cs h k = any-filter (λ s. s.call.slot.carrier == c) (λ s. not (s.call.slot.carrier == d)) cs (h refl)
-quiet_reset c d false cs h k = subst (λ (n : ℕ). has_call (filter (λ s. not (s.call.slot.carrier == n)) cs) c ≡ false) (sym (eqb-true d c k)) (none-filtered (λ s. s.call.slot.carrier == c) cs)
+quiet_reset c d false cs h k = subst (λ (n : ℕ). has_call (filter (λ s. not (s.call.slot.carrier == n)) cs) c ≡ false)
+    (sym (eqb-true d c k)) (none-filtered (λ s. s.call.slot.carrier == c) cs)
 
 quiet_event : (plan : Settings) (c : ℕ) (b : Bool) (now : Facts) (event : Event) → (b ≡ true → has_call now.calls c ≡ false)
     → reset_by_event c b event ≡ true → has_call (facts_after_event plan now event).calls c ≡ false
 quiet_event plan c b now (Up d) h k = quiet_reset c d b now.calls h k
 quiet_event plan c b now (Lost d) h k = quiet_reset c d b now.calls h k
-quiet_event plan c b now (Active slot) h k = any-map _ _ (with_activity slot) (λ s. ap (λ (x : Call). x.slot.carrier == c) (marked_call slot s)) now.calls ∙ h k
+quiet_event plan c b now (Active slot) h k =
+    any-map _ _ (with_activity slot) (λ s. ap (λ (x : Call). x.slot.carrier == c) (marked_call slot s)) now.calls ∙ h k
 quiet_event plan c b now Tick h k = any-map _ _ one_tick_older (λ s. refl) now.calls ∙ h k
 quiet_event plan c b now event h k = h k
 
@@ -209,9 +221,11 @@ module _ (plan : Settings) (c : ℕ) (p : KnowsPlan plan) (there : has_carrier p
       → has_call now.calls c ≡ false → names_carrier plan c (grant_pdu plan call late) ≡ false
   call_names now call late h stands none =
       carrier_named plan c call late ∙ false_from_ne_true _ (λ e.
-      let known : has_carrier plan call.slot.carrier ≡ true = (h.calls.payload call.slot (call_is_active now.calls call.slot call stands).0).known in
+      let known : has_carrier plan call.slot.carrier ≡ true =
+      (h.calls.payload call.slot (call_is_active now.calls call.slot call stands).0).known in
       let same : call.slot.carrier ≡ c = p.channels call.slot.carrier c known there (eqb-true _ _ e) in
-      let active = active_has (λ x. is_slot x.call.slot call.slot) (λ k. k.slot.carrier == c) now.calls call stands (rw same (equal_itself c)) in
+      let active =
+      active_has (λ x. is_slot x.call.slot call.slot) (λ k. k.slot.carrier == c) now.calls call stands (rw same (equal_itself c)) in
       true_false _ active none)
 
   named_not : (now : Facts) (slot : Slot) (pdu : Pdu) (b : Bool) → IsSound plan now → is_grant pdu ≡ b → MayName plan now.calls slot pdu b
@@ -219,12 +233,14 @@ module _ (plan : Settings) (c : ℕ) (p : KnowsPlan plan) (there : has_carrier p
   named_not now slot pdu true h e may none = rw may.1.is (call_names now may.1.call may.1.late h may.1.stands none)
   named_not now slot pdu false h e may none = no_grant_names plan c pdu e
 
-  no_grant_on : (now : Facts) (act : Act) → IsSound plan now → MayDo plan now act → has_call now.calls c ≡ false → grants_on plan c act ≡ false
+  no_grant_on : (now : Facts) (act : Act) → IsSound plan now → MayDo plan now act → has_call now.calls c ≡ false →
+      grants_on plan c act ≡ false
   no_grant_on now (Queue slot pdu) h may none = named_not now slot pdu (is_grant pdu) h refl may.names none
   no_grant_on now (Fill slot pdu) h may none = named_not now slot pdu (is_grant pdu) h refl may.names none
   no_grant_on now act h may none = refl
 
-  quiet_acts : (b : Bool) (now : Facts) (acts : List Act) → IsSound plan now → AllMayDo plan now acts → (b ≡ true → has_call now.calls c ≡ false)
+  quiet_acts : (b : Bool) (now : Facts) (acts : List Act) → IsSound plan now → AllMayDo plan now acts →
+      (b ≡ true → has_call now.calls c ≡ false)
       → QuietActs plan c b now acts
   quiet_acts b now [] h may none = none
   quiet_acts b now (act ∷ acts) h may none = (

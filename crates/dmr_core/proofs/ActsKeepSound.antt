@@ -1,5 +1,5 @@
 -- Sound facts stay sound through each act that may be done.
-use Rattle.std.proofs.Common.{◌≡◌, ◌≤◌, List, [], ◌∷◌, ◌++◌, true, false, refl, sym, subst, arith, length, drop}
+use Rattle.std.proofs.Common.{◌≡◌, List, [], ◌∷◌, ◌++◌, true, false, refl, sym, subst, arith, drop}
 use Rattle.std.specs.Prelude.{fold, not, ◌==◌}
 use Rattle.std.specs.List.{list_all}
 use Rattle.std.proofs.lemmas.List.{length-append, length-drop}
@@ -8,7 +8,6 @@ use Rattle.dmr_pdu.specs.declared.pdu.Pdu.{Pdu}
 use Rattle.dmr_plan.specs.declared.settings.Settings.{Settings}
 use Rattle.dmr_calls.specs.Asks.{others_than}
 use Rattle.dmr_calls.specs.Calls.{is_slot}
-use Rattle.dmr_pool.specs.Free.{control_slot}
 use Rattle.dmr_core.specs.declared.act.Act.{Act}
 use Rattle.dmr_core.specs.declared.act.Act.TheVariants.{AskOver, Asked, Began, Ended, Fill, Joined, Left, Lined, Queue, Send, Unlined}
 use Rattle.dmr_core.specs.Facts.{Facts, facts_after_act, late_by_act}
@@ -31,7 +30,8 @@ pub sound-done : (plan : Settings) (now : Facts) (act : Act) → KnowsPlan plan 
 sound-done plan now (Queue there pdu) p h may =
     let v : List Pdu = outbox now there ++ pdu ∷ [] in
     let pool = pool-put plan now p h there v may.up may.small
-    (λ e. any_more is_grant (outbox now there) pdu (h.pool.elsewhere there may.small e) (named_there plan now there pdu (is_grant pdu) may.names e))
+    (λ e. any_more is_grant (outbox now there) pdu (h.pool.elsewhere there may.small e)
+    (named_there plan now there pdu (is_grant pdu) may.names e))
     (omega (arith, may.room, length-append (outbox now there) (pdu ∷ []))) in
     let calls = calls-put plan now p h there v may.up may.small (λ e. true_false _ e may.none)
     (λ slot call k e. all_more (is_own plan call) (outbox now there) pdu
@@ -47,7 +47,8 @@ sound-done plan now (Send there pdu) p h may =
     (subst (λ (x : Slot). list_all (is_own plan call) (outbox now x) ≡ true) (sym e) (h.calls.own slot call k))) in
     assumption (pool, calls)
 sound-done plan now (Fill slot pdu) p h may =
-    let access = access-filled (is_up now plan.control) now.noise now.fills now.late (late_by_act now.late (Fill slot pdu)) may.up h.access in
+    let access =
+    access-filled (is_up now plan.control) now.noise now.fills now.late (late_by_act now.late (Fill slot pdu)) may.up h.access in
     assumption access
 sound-done plan now (Joined r) p h may =
     let radios = radios-joined now.registered now.calls now.asks now.lines h.radios r may.0 may.1 in

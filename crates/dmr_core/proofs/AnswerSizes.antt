@@ -13,10 +13,8 @@ use Rattle.dmr_calls.specs.declared.ask.Ask.{Ask}
 use Rattle.dmr_calls.specs.declared.line.Line.{Line}
 use Rattle.dmr_calls.specs.declared.call.Call.{Call}
 use Rattle.dmr_calls.specs.Asks.{ask_after_tick, ask_to}
-use Rattle.dmr_calls.specs.Lines.{first_line}
 use Rattle.dmr_calls.specs.Calls.{call_on, one_tick_older, is_slot}
 use Rattle.dmr_calls.specs.Engaged.{call_of, is_party_to_call}
-use Rattle.dmr_calls.specs.Due.{due_call}
 use Rattle.dmr_access.specs.Fill.{fill_of}
 use Rattle.dmr_pool.specs.Free.{control_slot}
 use Rattle.dmr_core.specs.declared.request.Request.{Request}
@@ -55,12 +53,14 @@ within a b c d e f h =
 wider : {plan : Settings} {acts : List Act} {a b c d e f : ℕ} → fits a b c d e f ≡ true → AreFewActs plan acts a b c
     → AreFewActs plan acts d e f
 wider {a = a} {b = b} {c = c} {d = d} {e = e} {f = f} fit h =
-    let k = within a b c d e f fit in record { size = omega (arith, h.size); waiting = omega (arith, h.waiting); apart = omega (arith, h.apart) }
+    let k = within a b c d e f fit in
+    record { size = omega (arith, h.size); waiting = omega (arith, h.waiting); apart = omega (arith, h.apart) }
 
 plain : {plan : Settings} {acts : List Act} {a b c d e f : ℕ} (act : Act) → on_control plan act ≡ 0 → elsewhere plan act ≡ 0
     → fits (suc a) b c d e f ≡ true → AreFewActs plan acts a b c → AreFewActs plan (act ∷ acts) d e f
 plain {a = a} {b = b} {c = c} {d = d} {e = e} {f = f} act x y fit h =
-    let k = within (suc a) b c d e f fit in record { size = omega (arith, h.size); waiting = omega (arith, h.waiting); apart = omega (arith, h.apart) }
+    let k = within (suc a) b c d e f fit in
+    record { size = omega (arith, h.size); waiting = omega (arith, h.waiting); apart = omega (arith, h.apart) }
 
 joint : {plan : Settings} {xs ys : List Act} {a b c d e f : ℕ} → AreFewActs plan xs a b c → AreFewActs plan ys d e f
     → AreFewActs plan (xs ++ ys) (a + d) (b + e) (c + f)
@@ -73,7 +73,8 @@ joint {plan = plan} {xs = xs} {ys = ys} h k = record {
 none_few : {plan : Settings} {a b c : ℕ} → AreFewActs plan [] a b c
 none_few = record { size = omega arith; waiting = omega arith; apart = omega arith }
 
-if_few : (plan : Settings) (b : Bool) (acts : List Act) (m n k : ℕ) → AreFewActs plan acts m n k → AreFewActs plan (if b then acts else []) m n k
+if_few : (plan : Settings) (b : Bool) (acts : List Act) (m n k : ℕ) → AreFewActs plan acts m n k →
+    AreFewActs plan (if b then acts else []) m n k
 if_few plan true acts m n k h = h
 if_few plan false acts m n k h = none_few
 
@@ -106,10 +107,11 @@ record AreShort (plan : Settings) (a b c : ℕ) : Type 0 where
 short : (plan : Settings) (a b c : ℕ) → fits 2 1 0 a b c ≡ true → AreShort plan a b c
 short plan a b c fit =
     let k = within 2 1 0 a b c fit in
-    let acked : (s t reason : ℕ) → AreFewActs plan (ack plan s t reason) a b c = λ s t reason.
-    let h = one_few plan (Ackd 0 reason false s t) in
+    let acked : (s t reason : ℕ) → AreFewActs plan (ack plan s t reason) a b c =
+    λ s t reason. let h = one_few plan (Ackd 0 reason false s t) in
     record { size = omega (arith, h.size); waiting = omega (arith, h.waiting); apart = omega (arith, h.apart) } in
-    let two : (act : Act) → on_control plan act ≡ 0 → elsewhere plan act ≡ 0 → (s t reason : ℕ) → AreFewActs plan (act ∷ ack plan s t reason) a b c =
+    let two : (act : Act) → on_control plan act ≡ 0 → elsewhere plan act ≡ 0 → (s t reason : ℕ) →
+    AreFewActs plan (act ∷ ack plan s t reason) a b c =
     λ act x y s t reason. wider fit (plain act x y refl (one_few plan (Ackd 0 reason false s t))) in
     record {
       acked = acked;
@@ -124,19 +126,28 @@ module _ (plan : Settings) (p : KnowsPlan plan) where
   unfolding grant
   grant_few call late =
       let h = copies_there plan.grant_copies plan (grant_pdu plan call late) in
-      record { size = omega (arith, h.size, p.few_grants); waiting = omega (arith, h.waiting, p.few_grants); apart = omega (arith, h.apart) }
+      record {
+        size = omega (arith, h.size, p.few_grants);
+        waiting = omega (arith, h.waiting, p.few_grants);
+        apart = omega (arith, h.apart);
+      }
 
   begin_few : (call : Call) → AreFewActs plan (begin plan call) 5 4 0
   begin_few call = plain (Began call) refl refl refl (grant_few call false)
 
-  clear_few : (now : Facts) (call : Call) → IsSound plan now → call_on now.calls call.slot ≡ Some call → AreFewActs plan (clear plan call) 5 0 4
+  clear_few : (now : Facts) (call : Call) → IsSound plan now → call_on now.calls call.slot ≡ Some call →
+      AreFewActs plan (clear plan call) 5 0 4
   unfolding clear
   clear_few now call h stands =
       let on = call_is_active now.calls call.slot call stands in
       let pdu : Pdu = Clear (lpcn_of plan plan.control) call.group call.target plan.tsi in
       let k = copies_elsewhere plan.clear_copies plan call.slot pdu (h.calls.payload call.slot on.0).apart in
       let copies : AreFewActs plan (replicate plan.clear_copies (Queue call.slot pdu)) 4 0 4 =
-      record { size = omega (arith, k.size, p.few_clears); waiting = omega (arith, k.waiting); apart = omega (arith, k.apart, p.few_clears) } in
+      record {
+        size = omega (arith, k.size, p.few_clears);
+        waiting = omega (arith, k.waiting);
+        apart = omega (arith, k.apart, p.few_clears);
+      } in
       plain (Ended call.slot) refl refl refl copies
 
   new_call_few : (now : Facts) (l : Line) → AreFewActs plan (acts_for_new_call plan now l) 5 4 0
@@ -152,8 +163,10 @@ module _ (plan : Settings) (p : KnowsPlan plan) where
       let k = short plan 5 1 4 refl in
       let calls : (call : Call) → call_of now.calls r ≡ Some call → AreFewActs plan (clear plan call) 5 1 4 =
       λ call e. wider refl (clear_few now call h (found_is_active (is_party_to_call r) now.calls call h.calls.apart e)) in
-      let asks : (q : ℕ) → AreFewActs plan (AskOver q ∷ []) 5 1 4 = λ q. plain (AskOver q) refl refl refl (none_few {a = 0} {b = 0} {c = 0}) in
-      let lines : (q : ℕ) → AreFewActs plan (Unlined q ∷ []) 5 1 4 = λ q. plain (Unlined q) refl refl refl (none_few {a = 0} {b = 0} {c = 0}) in
+      let asks : (q : ℕ) → AreFewActs plan (AskOver q ∷ []) 5 1 4 =
+      λ q. plain (AskOver q) refl refl refl (none_few {a = 0} {b = 0} {c = 0}) in
+      let lines : (q : ℕ) → AreFewActs plan (Unlined q ∷ []) 5 1 4 =
+      λ q. plain (Unlined q) refl refl refl (none_few {a = 0} {b = 0} {c = 0}) in
       let none : AreFewActs plan [] 5 1 4 = none_few in
       grind (arith, calls, asks, k.over, lines, k.unlined, none)
 
@@ -163,7 +176,8 @@ module _ (plan : Settings) (p : KnowsPlan plan) where
   leaving_few : (now : Facts) (q : Request) → IsSound plan now → AreFewActs plan (acts_for_leaving plan now q) 13 5 4
   unfolding acts_for_leaving
   leaving_few now q h =
-      let left : AreFewActs plan (if is_registered now q.source then Left q.source ∷ [] else []) 1 0 0 = if_few plan _ _ 1 0 0 (left_few q.source) in
+      let left : AreFewActs plan (if is_registered now q.source then Left q.source ∷ [] else []) 1 0 0 =
+      if_few plan _ _ 1 0 0 (left_few q.source) in
       wider refl (joint (joint (close_few now q.source h) left) (one_few plan (Ackd 0 0x60 false q.source q.target)))
 
   -- requests: seven acts would do
@@ -176,7 +190,8 @@ module _ (plan : Settings) (p : KnowsPlan plan) where
     unfolding acts_for_talkgroup_request
     talkgroup_few =
         let k = short plan 13 5 4 refl in
-        let granted : (call : Call) (late : Bool) → AreFewActs plan (grant plan call late) 13 5 4 = λ call late. wider refl (grant_few call late) in
+        let granted : (call : Call) (late : Bool) → AreFewActs plan (grant plan call late) 13 5 4 =
+        λ call late. wider refl (grant_few call late) in
         let new : (l : Line) → AreFewActs plan (acts_for_new_call plan now l) 13 5 4 = λ l. wider refl (new_call_few now l) in
         grind (arith, k.acked, granted, new)
 
@@ -184,9 +199,11 @@ module _ (plan : Settings) (p : KnowsPlan plan) where
     unfolding acts_for_individual_request
     individual_few =
         let k = short plan 13 5 4 refl in
-        let granted : (call : Call) (late : Bool) → AreFewActs plan (grant plan call late) 13 5 4 = λ call late. wider refl (grant_few call late) in
+        let granted : (call : Call) (late : Bool) → AreFewActs plan (grant plan call late) 13 5 4 =
+        λ call late. wider refl (grant_few call late) in
         let asked : (a b : Ask) (s t reason : ℕ) → AreFewActs plan (Asked a ∷ ack plan s t reason ++ ahoy plan b) 13 5 4 =
-        λ a b s t reason. plain (Asked a) refl refl refl (joint (one_few plan (Ackd 0 reason false s t)) (one_few plan (Ahoy b.options false individual_voice b.target b.source))) in
+        λ a b s t reason. plain (Asked a) refl refl refl
+        (joint (one_few plan (Ackd 0 reason false s t)) (one_few plan (Ahoy b.options false individual_voice b.target b.source))) in
         grind (arith, k.acked, granted, asked)
 
     cancel_few : AreFewActs plan (acts_for_cancel plan now q) 13 5 4
@@ -205,7 +222,8 @@ module _ (plan : Settings) (p : KnowsPlan plan) where
   answered_few now reason called =
       by_option (λ acts. AreFewActs plan acts 13 5 4) _ (ask_to now.asks called) [] (λ a k. plain (AskOver a.source) refl refl refl
       (by_if (λ acts. AreFewActs plan acts 5 4 0) (reason == 0x44) _ _
-      (new_call_few now (record { source = a.source; target = a.target; group = false })) ((short plan 5 4 0 refl).acked a.source a.target 0x2E))) none_few
+      (new_call_few now (record { source = a.source; target = a.target; group = false }))
+      ((short plan 5 4 0 refl).acked a.source a.target 0x2E))) none_few
 
   pdu_few : (now : Facts) (pdu : Pdu) → IsSound plan now → AreFewActs plan (acts_for_pdu plan now pdu) 13 5 4
   unfolding acts_for_pdu
@@ -226,13 +244,15 @@ module _ (plan : Settings) (p : KnowsPlan plan) where
   serve_few : (now : Facts) (first : Option Line) → AreFewActs plan (acts_for_line plan now first) 6 4 0
   unfolding acts_for_line
   serve_few now first =
-      by_option (λ acts. AreFewActs plan acts 6 4 0) _ first [] (λ l e. by_option (λ acts. AreFewActs plan acts 6 4 0) _ (lowest_free plan now) []
+      by_option (λ acts. AreFewActs plan acts 6 4 0) _ first []
+      (λ l e. by_option (λ acts. AreFewActs plan acts 6 4 0) _ (lowest_free plan now) []
       (λ slot d. plain (Unlined l.source) refl refl refl (begin_few (call_of_line l slot))) none_few) none_few
 
   ended_few : (now : Facts) (due : Option Slot) → IsSound plan now → AreFewActs plan (acts_for_due_call plan now.calls due) 5 0 4
   unfolding acts_for_due_call
   ended_few now due h =
-      by_option (λ acts. AreFewActs plan acts 5 0 4) _ due [] (λ slot e. by_option (λ acts. AreFewActs plan acts 5 0 4) _ (call_on now.calls slot) []
+      by_option (λ acts. AreFewActs plan acts 5 0 4) _ due []
+      (λ slot e. by_option (λ acts. AreFewActs plan acts 5 0 4) _ (call_on now.calls slot) []
       (λ call k. clear_few now call h (found_is_active (λ s. is_slot s.call.slot slot) now.calls call h.calls.apart k)) none_few) none_few
 
   tick_few : (now : Facts) → IsSound plan now → AreFewActs plan (acts_for_tick plan now) 13 5 4
@@ -259,7 +279,8 @@ sent_few plan now slot [] =
 sent_few plan now slot (pdu ∷ pdus) = plain (Send slot pdu) refl refl refl (none_few {a = 0} {b = 0} {c = 0})
 
 polls_few : (plan : Settings) (now : Facts) (c : ℕ)
-    → AreFewActs plan (acts_for_slot plan now (record { carrier = c; slot = 0 }) ++ acts_for_slot plan now (record { carrier = c; slot = 1 })) 2 0 0
+    → AreFewActs plan (acts_for_slot plan now (record { carrier = c; slot = 0 }) ++ acts_for_slot plan now
+    (record { carrier = c; slot = 1 })) 2 0 0
 unfolding acts_for_slot
 polls_few plan now c =
     let first : Slot = record { carrier = c; slot = 0 } in
@@ -272,6 +293,7 @@ pub acts_few : (plan : Settings) (now : Facts) (event : Event) → KnowsPlan pla
 acts_few plan now (Heard slot pdu) p h = if_few plan _ (acts_for_pdu plan now pdu) 13 5 4 (pdu_few plan p now pdu h)
 acts_few plan now (Poll c) p h = if_few plan (is_up now c) _ 13 5 4 (wider refl (polls_few plan now c))
 acts_few plan now Tick p h =
-    tick_few plan p (record now { calls = map one_tick_older now.calls; asks = map ask_after_tick now.asks }) (sound-noted plan now Tick p h)
+    tick_few plan p (record now { calls = map one_tick_older now.calls; asks = map ask_after_tick now.asks })
+    (sound-noted plan now Tick p h)
 acts_few plan now (Say command) p h = commanded_few plan p now command h
 acts_few plan now _ p h = none_few

@@ -30,7 +30,7 @@ use Rattle.dmr_core.specs.declared.act.Act.{Act}
 use Rattle.dmr_core.specs.declared.act.Act.TheVariants.{AskOver, Asked, Fill, Joined, Left, Queue, Unlined}
 use Rattle.dmr_core.specs.Facts.{Facts, facts_after_act, facts_after_event, has_carrier}
 use Rattle.dmr_core.specs.Words.{has_room, is_engaged, is_free, is_registered, is_up, lowest_free, lpcn_of, outbox, has_call_on}
-use Rattle.dmr_core.specs.Rules.{ack, acts_of, ahoy, acts_for_called_radio, begin, call_of_line, acts_for_cancel, clear, close, answer_to_command, acts_for_due_call, grant, acts_for_pdu, acts_for_individual_request, late_entry, acts_for_leaving, acts_for_new_call, acts_for_slot, acts_for_registration, acts_for_due_ask, acts_for_request, acts_for_outbox, acts_for_line, acts_for_talkgroup_request, acts_for_tick}
+use Rattle.dmr_core.specs.Rules.{ack, acts_of, ahoy, acts_for_called_radio, begin, call_of_line, acts_for_cancel, clear, close, answer_to_command, acts_for_due_call, grant, acts_for_pdu, acts_for_individual_request, late_entry, acts_for_leaving, acts_for_new_call, acts_for_slot, acts_for_registration, acts_for_due_ask, acts_for_request, acts_for_outbox, acts_for_line, acts_for_tick}
 use Rattle.dmr_core.specs.Sound.{IsSound, engagements, engagements_in_ask, engagements_in_line, is_grant, party}
 use Rattle.dmr_core.specs.May.{AllMayDo, MayDo, MayEngage}
 use Rattle.dmr_core.proofs.PlanLemmas.{KnowsPlan}
@@ -41,7 +41,7 @@ use Rattle.dmr_core.proofs.ChoiceLemmas.{by_drop, by_end, by_if, by_option, lowe
 use Rattle.dmr_core.proofs.SlotsStaySound.{IsFree, free_is, other_place, any_more}
 use Rattle.dmr_core.proofs.GrantsAreOwn.{found_is_active, call_is_active}
 use Rattle.dmr_core.proofs.FillsAreLateEntries.{fill_may}
-use Rattle.dmr_core.proofs.ActsKeepSound.{sound-done, sound-acts, may-append}
+use Rattle.dmr_core.proofs.ActsKeepSound.{sound-acts, may-append}
 use Rattle.dmr_core.proofs.EventsKeepSound.{sound-noted, put_either}
 use Rattle.dmr_core.proofs.PartsMayBeDone.{LeavesRoom, MayAnswer, ack_after, ack_may, after, after_acts, begin_may, clear_may, engage, few_with_free, lowest_small, queue_leaves, queue_may}
 use Rattle.dmr_core.proofs.TalkgroupMayBeDone.{found_may, new_call_may, talkgroup_may}
@@ -72,7 +72,9 @@ ask_engage plan now test ask h found =
     subst (λ (k : Ask). not (k.source == ask.source) ≡ false) (sym a.2) (not_itself ask.source) in
     record {
       parties = λ r k. h.radios.parties r (omega (arith, same r, total_some (engagements_in_ask r) test now.asks a.0 a.1));
-      once = λ r. omega (arith, h.radios.once r, same r, total_found (engagements_in_ask r) test (λ x. not (x.ask.source == ask.source)) now.asks a.0 a.1 out);
+      once = λ r.
+          let left = total_found (engagements_in_ask r) test (λ x. not (x.ask.source == ask.source)) now.asks a.0 a.1 out in
+          omega (arith, h.radios.once r, same r, left);
       listed = λ g. cc;
     }
 
@@ -124,7 +126,8 @@ module _ (plan : Settings) (now : Facts) (c : MayAnswer plan now 8) where
   unfolding acts_for_individual_request
   individual_may q registered =
       let own : (call : Call) → own_call now.calls q.source q.target ≡ Some call → AllMayDo plan now (grant plan call false) =
-      λ call. found_may plan now 8 c (omega arith) (λ s. (s.call.source == q.source) && (not s.call.group && (s.call.target == q.target))) call false in
+      λ call. found_may plan now 8 c (omega arith) (λ s. (s.call.source == q.source) && (not s.call.group && (s.call.target == q.target)))
+      call false in
       let ask : Ask = record { source = q.source; target = q.target; options = q.options; attempt = 1 } in
       let asked : (q.target == q.source) ≡ false → is_registered now q.target ≡ true → is_engaged now q.source ≡ false
       → is_engaged now q.target ≡ false → nat_lt (length now.asks) 32 ≡ true
@@ -133,7 +136,8 @@ module _ (plan : Settings) (now : Facts) (c : MayAnswer plan now 8) where
       grind (arith, own, asked, acked)
 
   taken_may : (called : ℕ) (a : Ask) (b : Bool) → ask_to now.asks called ≡ Some a
-      → AllMayDo plan now (AskOver a.source ∷ (if b then acts_for_new_call plan now (record { source = a.source; target = a.target; group = false }) else ack plan a.source a.target 0x2E))
+      → let l : Line = record { source = a.source; target = a.target; group = false } in
+      AllMayDo plan now (AskOver a.source ∷ (if b then acts_for_new_call plan now l else ack plan a.source a.target 0x2E))
   taken_may called a true found =
       let l : Line = record { source = a.source; target = a.target; group = false } in
       let later : Facts = facts_after_act now (AskOver a.source) in
@@ -182,7 +186,8 @@ room_is : (plan : Settings) (now : Facts) → has_room plan now ≡ true → len
 room_is plan now h = grind (arith, nat_tests)
 
 pdu_at : (plan : Settings) (now : Facts) (slot : Slot) (pdu : Pdu) → KnowsPlan plan → IsSound plan now
-    → (is_up now slot.carrier && (is_slot slot (control_slot plan) && has_room plan now)) ≡ true → AllMayDo plan now (acts_for_pdu plan now pdu)
+    → (is_up now slot.carrier && (is_slot slot (control_slot plan) && has_room plan now)) ≡ true →
+    AllMayDo plan now (acts_for_pdu plan now pdu)
 pdu_at plan now slot pdu p h k =
     let a = and_parts _ _ k in
     let b = and_parts _ _ a.1 in
@@ -258,7 +263,10 @@ line_engage plan now l h found =
     let first : find (λ (x : Line). true) now.lines ≡ Some l = sym (first_found now.lines) ∙ found in
     record {
       parties = λ r k. h.radios.parties r (omega (arith, total_some (engagements_in_line r) (λ x. true) now.lines l first));
-      once = λ r. omega (arith, h.radios.once r, total_found (engagements_in_line r) (λ x. true) (λ x. not (x.source == l.source)) now.lines l first (not_itself l.source));
+      once = λ r.
+          let out = not_itself l.source in
+          let left = total_found (engagements_in_line r) (λ x. true) (λ x. not (x.source == l.source)) now.lines l first out in
+          omega (arith, h.radios.once r, left);
       listed = λ g. h.lines.listed l.target
           (find_any (λ x. true) (λ x. x.group && (x.target == l.target)) now.lines l first (rw (g, equal_itself l.target) refl));
     }
@@ -268,7 +276,8 @@ served_may : (plan : Settings) (now later : Facts) (call : Call) → KnowsPlan p
     → first_line now.lines ≡ Some (record { source = call.source; target = call.target; group = call.group })
     → lowest_free plan now ≡ Some call.slot → AllMayDo plan later (Unlined call.source ∷ begin plan call)
 served_may plan now later call p h ready room line found =
-    let there : first_line later.lines ≡ Some (record { source = call.source; target = call.target; group = call.group }) = rw ready.lines line in
+    let there : first_line later.lines ≡ Some (record { source = call.source; target = call.target; group = call.group }) =
+    rw ready.lines line in
     let c : MayAnswer plan later 7 = record {
       known = p;
       sound = h;
@@ -315,9 +324,12 @@ ready_to_queue plan now asks pdu plain =
         up = f.up;
         apart = f.apart;
         none = f.none;
-        quiet = get_or-set_other boxes (place control) (place slot) (box boxes control ++ pdu ∷ []) [] (other_place slot control also (omega arith) f.apart) ∙ f.quiet;
-        ungranted = put_either (λ b. list_any (names (lpcn_of plan slot.carrier) slot.slot) b ≡ false) boxes (place control) (place control) (box boxes control ++ pdu ∷ [])
-            (any_more (names (lpcn_of plan slot.carrier) slot.slot) (box boxes control) pdu f.ungranted (plain_names (lpcn_of plan slot.carrier) slot.slot pdu plain)) f.ungranted;
+        quiet = get_or-set_other boxes (place control) (place slot) (box boxes control ++ pdu ∷ []) []
+            (other_place slot control also (omega arith) f.apart) ∙ f.quiet;
+        ungranted = put_either (λ b. list_any (names (lpcn_of plan slot.carrier) slot.slot) b ≡ false) boxes (place control) (place control)
+            (box boxes control ++ pdu ∷ [])
+            (any_more (names (lpcn_of plan slot.carrier) slot.slot) (box boxes control) pdu f.ungranted
+            (plain_names (lpcn_of plan slot.carrier) slot.slot pdu plain)) f.ungranted;
       };
     }
 
@@ -331,22 +343,26 @@ due_found wait (a ∷ asks) ask h = first (nat_le wait a.waited) h
     first true h = h
     first false h = cc
 
-module _ (plan : Settings) (now : Facts) (p : KnowsPlan plan) (h : IsSound plan now) (room : length (outbox now (control_slot plan)) ≤ 56) (ask : Ask) (found : option_map (λ (x : ActiveAsk). x.ask) (find (λ (x : ActiveAsk). true) now.asks) ≡ Some ask) where
+module _ (plan : Settings) (now : Facts) (p : KnowsPlan plan) (h : IsSound plan now) (room : length (outbox now (control_slot plan)) ≤ 56)
+    (ask : Ask) (found : option_map (λ (x : ActiveAsk). x.ask) (find (λ (x : ActiveAsk). true) now.asks) ≡ Some ask) where
   may_answer : MayAnswer plan now 8
   may_answer = record {
     known = p;
     sound = h;
-    up = found_up (λ (xs : List ActiveAsk). option_map (λ (x : ActiveAsk). x.ask) (find (λ (x : ActiveAsk). true) xs)) _ now.asks ask refl h.asks.none found;
+    up = found_up (λ (xs : List ActiveAsk). option_map (λ (x : ActiveAsk). x.ask) (find (λ (x : ActiveAsk). true) xs)) _ now.asks ask refl
+        h.asks.none found;
     room = omega arith;
   }
 
-  again_repeats : (n : ℕ) → Repeats plan now (Asked (record { source = ask.source; target = ask.target; options = ask.options; attempt = n }) ∷ ahoy plan ask)
+  again_repeats : (n : ℕ) → Repeats plan now
+      (Asked (record { source = ask.source; target = ask.target; options = ask.options; attempt = n }) ∷ ahoy plan ask)
   again_repeats n =
       let a = mapped_some _ (find (λ (x : ActiveAsk). true) now.asks) ask found in
       let others : ActiveAsk → Bool = λ x. not (x.ask.source == ask.source) in
       let out : others a.0 ≡ false = subst (λ (k : Ask). not (k.source == ask.source) ≡ false) (sym a.2) (not_itself ask.source) in
+      let left = total_found (λ x. 1) (λ x. true) others now.asks a.0 a.1 out in
       let less : length (others_than ask.source now.asks) < 32 =
-      omega (arith, h.asks.few, total_found (λ x. 1) (λ x. true) others now.asks a.0 a.1 out, total-ones now.asks, total-ones (others_than ask.source now.asks)) in
+      omega (arith, h.asks.few, left, total-ones now.asks, total-ones (others_than ask.source now.asks)) in
       let new : Ask = record { source = ask.source; target = ask.target; options = ask.options; attempt = n } in
       let pdu : Pdu = Ahoy ask.options false individual_voice ask.target ask.source in
       let may : MayDo plan now (Asked new) = (may_answer.up, less, ask_engage plan now (λ x. true) ask h found) in
@@ -371,7 +387,8 @@ unfolding acts_for_due_ask
 due_repeats plan now wait p h room =
     by_option (Repeats plan now) _ (due_ask wait now.asks) []
     (λ ask k. let found = due_found wait now.asks ask k in
-    by_if (Repeats plan now) (nat_lt ask.attempt plan.ahoy_tries) _ _ (again_repeats plan now p h room ask found (ask.attempt + 1)) (over_repeats plan now p h room ask found))
+    by_if (Repeats plan now) (nat_lt ask.attempt plan.ahoy_tries) _ _ (again_repeats plan now p h room ask found (ask.attempt + 1))
+    (over_repeats plan now p h room ask found))
     (record { leaves = record { may = tt; up = refl; room = omega arith }; ready = record { lines = refl; free = λ slot also f. f } })
 
 both_may : (plan : Settings) (now later : Facts) → KnowsPlan plan → IsSound plan later → IsReady plan now later → later.asks ≡ now.asks
@@ -380,7 +397,8 @@ both_may : (plan : Settings) (now later : Facts) → KnowsPlan plan → IsSound 
 both_may plan now later p h ready same room =
     let asks : List Act = acts_for_due_ask plan (due_ask plan.ahoy_wait now.asks) in
     let c : Repeats plan later asks =
-    subst (λ (xs : List ActiveAsk). Repeats plan later (acts_for_due_ask plan (due_ask plan.ahoy_wait xs))) same (due_repeats plan later plan.ahoy_wait p h room) in
+    subst (λ (xs : List ActiveAsk). Repeats plan later (acts_for_due_ask plan (due_ask plan.ahoy_wait xs))) same
+    (due_repeats plan later plan.ahoy_wait p h room) in
     let still : IsReady plan now (fold facts_after_act later asks) =
     record { lines = c.ready.lines ∙ ready.lines; free = λ slot also f. c.ready.free slot also (ready.free slot also f) } in
     may-append plan asks (acts_for_line plan now (first_line now.lines)) later c.leaves.may
@@ -394,12 +412,14 @@ tick_may plan now p h =
     let later : Facts = fold facts_after_act now due in
     may-append plan due _ now c.leaves.may
     (if_may plan later (has_room plan now) _
-    (λ k. both_may plan now later p (sound-acts plan now due p h c.leaves.may) c.ready c.asks (omega (arith, c.leaves.room, room_is plan now k))))
+    (λ k. both_may plan now later p (sound-acts plan now due p h c.leaves.may) c.ready c.asks
+    (omega (arith, c.leaves.room, room_is plan now k))))
 
 -- polls
 module _ (plan : Settings) (now later : Facts) (slot : Slot) where
   sent_may : (xs : List Pdu) → outbox later slot ≡ xs → is_up later slot.carrier ≡ true → slot.slot < 2
-      → (is_slot slot (control_slot plan) ≡ true → MayDo plan later (Fill slot (fill_of plan now.moving now.noise now.fills (late_entry plan now))))
+      → (is_slot slot (control_slot plan) ≡ true → MayDo plan later
+      (Fill slot (fill_of plan now.moving now.noise now.fills (late_entry plan now))))
       → AllMayDo plan later (acts_for_outbox plan now slot xs)
   sent_may [] e up small fills = if_may plan later (is_slot slot (control_slot plan)) _ (λ k. (fills k, tt))
   sent_may (pdu ∷ pdus) e up small fills = ((up, small, rw e refl), tt)
@@ -413,21 +433,24 @@ module _ (plan : Settings) (now later : Facts) (slot : Slot) where
   sent_elsewhere other [] small also apart =
       by_if (λ acts. outbox (fold facts_after_act later acts) other ≡ outbox later other) (is_slot slot (control_slot plan)) _ _ refl refl
   sent_elsewhere other (pdu ∷ pdus) small also apart =
-      get_or-set_other later.outboxes (place slot) (place other) (drop 1 (box later.outboxes slot)) [] (other_place other slot also small apart)
+      get_or-set_other later.outboxes (place slot) (place other) (drop 1 (box later.outboxes slot)) []
+      (other_place other slot also small apart)
 
 -- slot 1 is not a control slot
 not_first : (plan : Settings) (c : ℕ) → is_slot (record { carrier = c; slot = 1 }) (control_slot plan) ≡ true → ⊥
 not_first plan c k = let no : (1 == 0) ≡ true = (and_parts (c == plan.control) (1 == 0) k).1 in cc
 
 polls_may : (plan : Settings) (now : Facts) (c : ℕ) → is_up now c ≡ true
-    → AllMayDo plan (facts_after_event plan now (Poll c)) (acts_for_slot plan now (record { carrier = c; slot = 0 }) ++ acts_for_slot plan now (record { carrier = c; slot = 1 }))
+    → AllMayDo plan (facts_after_event plan now (Poll c))
+    (acts_for_slot plan now (record { carrier = c; slot = 0 }) ++ acts_for_slot plan now (record { carrier = c; slot = 1 }))
 unfolding acts_for_slot
 polls_may plan now c up =
     let first : Slot = record { carrier = c; slot = 0 } in
     let second : Slot = record { carrier = c; slot = 1 } in
     let later : Facts = facts_after_event plan now (Poll c) in
     let last : Facts = fold facts_after_act later (acts_for_outbox plan now first (outbox now first)) in
-    let fills : is_slot first (control_slot plan) ≡ true → MayDo plan later (Fill first (fill_of plan now.moving now.noise now.fills (late_entry plan now))) = λ k.
+    let fill : Pdu = fill_of plan now.moving now.noise now.fills (late_entry plan now) in
+    let fills : is_slot first (control_slot plan) ≡ true → MayDo plan later (Fill first fill) = λ k.
     let there : first ≡ control_slot plan = same_slot first (control_slot plan) k in
     fill_may plan now c first there (subst (λ (s : Slot). is_up now s.carrier ≡ true) there up) in
     may-append plan (acts_for_outbox plan now first (outbox now first)) (acts_for_outbox plan now second (outbox now second)) later
@@ -463,6 +486,7 @@ acts_may plan now (Heard slot pdu) p h =
     (λ k. pdu_at plan now slot pdu p h k)
 acts_may plan now (Poll c) p h = if_may plan (facts_after_event plan now (Poll c)) (is_up now c) _ (λ k. polls_may plan now c k)
 acts_may plan now Tick p h =
-    tick_may plan (record now { calls = map one_tick_older now.calls; asks = map ask_after_tick now.asks }) p (sound-noted plan now Tick p h)
+    tick_may plan (record now { calls = map one_tick_older now.calls; asks = map ask_after_tick now.asks }) p
+    (sound-noted plan now Tick p h)
 acts_may plan now (Say command) p h = commanded_may plan now command p h
 acts_may plan now _ p h = tt

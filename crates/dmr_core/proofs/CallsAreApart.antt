@@ -1,7 +1,6 @@
 -- Slots that are the same, and calls by their slots.
-use Rattle.std.proofs.Common.{◌≡◌, List, [], ◌∷◌, ◌++◌, Bool, true, false, refl, sym, ◌∙◌, ap, arith, map, filter}
-use Rattle.std.specs.Prelude.{◌==◌, ◌&&◌, ◌||◌, Option, Some, None, cond, find, option_map}
-use Rattle.std.specs.List.{list_any}
+use Rattle.std.proofs.Common.{◌≡◌, List, [], ◌∷◌, ◌++◌, Bool, true, false, refl, ◌∙◌, ap, arith, map, filter}
+use Rattle.std.specs.Prelude.{◌&&◌, Some, None, cond}
 use Rattle.std.proofs.lemmas.Bool.{and_parts, cond_both, eqb-true, or_parts}
 use Rattle.std.proofs.lemmas.Bool.Decides.{nat_tests}
 use Rattle.dmr_pdu.specs.declared.slots.Slot.{Slot}

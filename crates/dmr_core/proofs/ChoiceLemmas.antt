@@ -37,7 +37,8 @@ by_drop P false room acts none some = none
 -- the acts of ending a call: none if there is no such carrier, or no call
 pub by_end : (P : List Act → Type 0) (known : Bool) (f : Call → List Act) (o : Option Call) → P []
     → ((call : Call) → o ≡ Some call → P (f call))
-    → P (if not known then reply_alone reply.NoCarrier else option_map_or (λ (call : Call). acts_and_done (f call)) o (reply_alone reply.NoCall)).list
+    → P (if not known then reply_alone reply.NoCarrier else option_map_or (λ (call : Call). acts_and_done (f call)) o
+    (reply_alone reply.NoCall)).list
 by_end P true f None none some = none
 by_end P true f (Some call) none some = some call refl
 by_end P false f o none some = none

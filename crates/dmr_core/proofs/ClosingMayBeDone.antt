@@ -1,8 +1,8 @@
 -- The acts that end a radio's call, ask or line may be done.
-use Rattle.std.proofs.Common.{◌≡◌, ◌<◌, ◌≤◌, ◌+◌, ℕ, zero, suc, List, [], ◌∷◌, ◌++◌, Bool, true, false, refl, sym, ◌∙◌, ap, subst, arith, filter, length}
-use Rattle.std.specs.Prelude.{fold, Option, Some, None, cond, ◌&&◌, not, replicate, find, ◌==◌, ◌||◌, option_map}
+use Rattle.std.proofs.Common.{◌≡◌, ◌<◌, ◌≤◌, ℕ, zero, suc, List, [], ◌∷◌, ◌++◌, Bool, true, false, refl, sym, ◌∙◌, ap, subst, arith, length}
+use Rattle.std.specs.Prelude.{fold, Option, Some, None, ◌&&◌, not, replicate, find, ◌==◌, option_map}
 use Rattle.std.specs.List.{list_any}
-use Rattle.std.proofs.lemmas.Bool.{or_right, or_parts}
+use Rattle.std.proofs.lemmas.Bool.{or_right}
 use Rattle.std.proofs.lemmas.List.{get_or-set_other}
 use Rattle.dmr_pdu.specs.declared.slots.Slot.{Slot}
 use Rattle.dmr_pdu.specs.declared.pdu.Pdu.{Pdu}
@@ -12,12 +12,11 @@ use Rattle.dmr_calls.specs.declared.ask.Ask.{Ask}
 use Rattle.dmr_calls.specs.declared.ask.ActiveAsk.{ActiveAsk}
 use Rattle.dmr_calls.specs.declared.line.Line.{Line}
 use Rattle.dmr_calls.specs.declared.call.Call.{Call}
-use Rattle.dmr_calls.specs.declared.call.ActiveCall.{ActiveCall}
 use Rattle.dmr_calls.specs.Asks.{ask_of, ask_to, others_than}
 use Rattle.dmr_calls.specs.Lines.{line_of, line_to, without_line}
 use Rattle.dmr_calls.specs.Calls.{call_on, is_slot, on_other_slots}
 use Rattle.dmr_calls.specs.Engaged.{call_of, is_party, is_party_to_ask, is_party_to_call, is_party_to_line}
-use Rattle.dmr_pool.specs.Slots.{box, place}
+use Rattle.dmr_pool.specs.Slots.{place}
 use Rattle.dmr_pool.specs.Free.{control_slot}
 use Rattle.dmr_core.specs.declared.act.Act.{Act}
 use Rattle.dmr_core.specs.declared.act.Act.TheVariants.{AskOver, Ended, Queue, Unlined}
@@ -75,7 +74,8 @@ counts r group source target h = grind arith
 -- acts that may be done, and after which nothing engages the radio
 pub record Closes (plan : Settings) (now : Facts) (r : ℕ) (acts : List Act) : Type 0 where
   pub leaves : LeavesRoom plan now acts 1
-  pub gone : engagements (fold facts_after_act now acts).calls (fold facts_after_act now acts).asks (fold facts_after_act now acts).lines r ≡ 0
+  pub gone : engagements (fold facts_after_act now acts).calls (fold facts_after_act now acts).asks
+      (fold facts_after_act now acts).lines r ≡ 0
 
 pub control_apart : (plan : Settings) (now : Facts) (slot : Slot) → IsSound plan now → has_call_on now.calls slot ≡ true
     → is_slot (control_slot plan) slot ≡ false
@@ -128,17 +128,21 @@ module _ (plan : Settings) (now : Facts) (r : ℕ) (h : IsSound plan now) where
   none_closes a x y b c =
       let calls : list_any (is_party_to_call r) now.calls ≡ false = none_found (is_party_to_call r) now.calls (unmapped _ _ a) in
       let asks : list_any (is_party_to_ask r) now.asks ≡ false =
-      neither (λ k. k.ask.source == r) (λ k. k.ask.target == r) now.asks (none_found _ now.asks (unmapped _ _ x)) (none_found _ now.asks (unmapped _ _ y)) in
+      neither (λ k. k.ask.source == r) (λ k. k.ask.target == r) now.asks (none_found _ now.asks (unmapped _ _ x))
+      (none_found _ now.asks (unmapped _ _ y)) in
       let lines : list_any (is_party_to_line r) now.lines ≡ false =
       neither (λ l. l.source == r) (λ l. not l.group && (l.target == r)) now.lines (none_found _ now.lines b) (none_found _ now.lines c) in
       record { leaves = record { may = tt; up = refl; room = omega arith }; gone = not_engaged now r (rw (calls, asks, lines) refl) }
 
-pub close_closes : (plan : Settings) (now : Facts) (r : ℕ) → KnowsPlan plan → IsSound plan now → length (outbox now (control_slot plan)) ≤ 56
+pub close_closes : (plan : Settings) (now : Facts) (r : ℕ) → KnowsPlan plan → IsSound plan now →
+    length (outbox now (control_slot plan)) ≤ 56
     → Closes plan now r (close plan now r)
 unfolding close
 close_closes plan now r p h room =
-    let answered : is_up now plan.control ≡ true → MayAnswer plan now 8 = λ up. record { known = p; sound = h; up = up; room = omega arith } in
-    let calls : (call : Call) → call_of now.calls r ≡ Some call → Closes plan now r (clear plan call) = λ call. call_closes plan now r h call p in
+    let answered : is_up now plan.control ≡ true → MayAnswer plan now 8 =
+    λ up. record { known = p; sound = h; up = up; room = omega arith } in
+    let calls : (call : Call) → call_of now.calls r ≡ Some call → Closes plan now r (clear plan call) =
+    λ call. call_closes plan now r h call p in
     let asks : (a : Ask) → ask_of now.asks r ≡ Some a → Closes plan now r (AskOver a.source ∷ []) = λ a k. record {
       leaves = record { may = (tt, tt); up = refl; room = omega arith };
       gone = ask_gone plan now r h (λ x. x.ask.source == r) a (λ x e. rw e refl) k;
@@ -156,7 +160,8 @@ close_closes plan now r p h room =
       leaves = record { may = (tt, tt); up = refl; room = omega arith };
       gone = line_gone plan now r h (λ x. x.source == r) l (λ x e. rw e refl) k;
     } in
-    let lines_to : (l : Line) → line_to now.lines r ≡ Some l → Closes plan now r (Unlined l.source ∷ ack plan l.source l.target 0x24) = λ l k.
+    let lines_to : (l : Line) → line_to now.lines r ≡ Some l
+    → Closes plan now r (Unlined l.source ∷ ack plan l.source l.target 0x24) = λ l k.
     let up = found_up (λ (xs : List Line). line_to xs r) _ now.lines l refl h.lines.none k in record {
       leaves = record {
         may = ack_after (answered up) (omega arith) (Unlined l.source) tt refl l.source l.target 0x24;

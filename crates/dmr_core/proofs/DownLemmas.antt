@@ -1,7 +1,7 @@
 -- An event of a carrier that is not up changes nothing.
-use Rattle.std.proofs.Common.{◌≡◌, ◌<◌, ◌+◌, ◌*◌, ℕ, zero, suc, List, [], ◌∷◌, Bool, true, false, refl, sym, ◌∙◌, ap, subst, arith, map, filter}
+use Rattle.std.proofs.Common.{◌≡◌, ◌<◌, ◌+◌, ◌*◌, ℕ, List, [], ◌∷◌, Bool, true, false, refl, sym, ◌∙◌, ap, subst, arith, map}
 use Rattle.std.specs.List.{list_any}
-use Rattle.std.specs.Prelude.{Option, None, if◌then◌else◌, not, ◌||◌, ◌==◌, slice_set, slice_index_or}
+use Rattle.std.specs.Prelude.{None, if◌then◌else◌, ◌==◌, slice_set, slice_index_or}
 use Rattle.std.proofs.lemmas.Bool.{and_parts, eqb-true, false_from_ne_true}
 use Rattle.std.proofs.lemmas.List.{set-get_or}
 use Rattle.dmr_pdu.specs.declared.slots.Slot.{Slot}
@@ -15,7 +15,6 @@ use Rattle.dmr_pool.specs.Slots.{box, outboxes_without_carrier}
 use Rattle.dmr_pool.specs.Free.{is_control}
 use Rattle.dmr_core.specs.declared.event.Event.{Event}
 use Rattle.dmr_core.specs.declared.event.Event.TheVariants.{Up, Lost, Heard, Noise, Active, Poll, Tick, Say}
-use Rattle.dmr_core.specs.declared.named.NamedSlot.{NamedSlot}
 use Rattle.dmr_core.specs.Facts.{Facts, facts_after_event, has_carrier}
 use Rattle.dmr_core.specs.Words.{is_up, has_call_on}
 use Rattle.dmr_core.specs.Rules.{acts_of}
@@ -60,9 +59,21 @@ module _ (plan : Settings) (now : Facts) (h : IsSound plan now) where
   unknown_down c none = false_from_ne_true _ (λ e. true_false _ (h.pool.known c e) none)
 
 -- facts, field by field
-same_facts : (a b : Facts) → a.up ≡ b.up → a.registered ≡ b.registered → a.asks ≡ b.asks → a.lines ≡ b.lines → a.calls ≡ b.calls → a.outboxes ≡ b.outboxes → a.noise ≡ b.noise → a.moving ≡ b.moving → a.fills ≡ b.fills → a.late ≡ b.late → a ≡ b
+same_facts : (a b : Facts) → a.up ≡ b.up → a.registered ≡ b.registered → a.asks ≡ b.asks → a.lines ≡ b.lines → a.calls ≡ b.calls →
+    a.outboxes ≡ b.outboxes → a.noise ≡ b.noise → a.moving ≡ b.moving → a.fills ≡ b.fills → a.late ≡ b.late → a ≡ b
 same_facts a b up registered asks lines calls outboxes noise moving fills late =
-    λ i. record { up = up i; registered = registered i; asks = asks i; lines = lines i; calls = calls i; outboxes = outboxes i; noise = noise i; moving = moving i; fills = fills i; late = late i }
+    λ i. record {
+      up = up i;
+      registered = registered i;
+      asks = asks i;
+      lines = lines i;
+      calls = calls i;
+      outboxes = outboxes i;
+      noise = noise i;
+      moving = moving i;
+      fills = fills i;
+      late = late i;
+    }
 
 -- a value that is replaced by an equal one
 kept_or : {X : Type 0} (b : Bool) (x y : X) → (b ≡ true → x ≡ y) → (if b then x else y) ≡ y
@@ -73,7 +84,8 @@ kept_or false x y h = refl
 down_too : (plan : Settings) (now : Facts) (c : ℕ) → is_up now c ≡ false → (c == plan.control) ≡ true → is_up now plan.control ≡ false
 down_too plan now c h e = let same : c ≡ plan.control = eqb-true c plan.control e in rw same at h
 
-slot_down : (plan : Settings) (now : Facts) (slot : Slot) → is_up now slot.carrier ≡ false → is_control plan slot ≡ true → is_up now plan.control ≡ false
+slot_down : (plan : Settings) (now : Facts) (slot : Slot) → is_up now slot.carrier ≡ false → is_control plan slot ≡ true →
+    is_up now plan.control ≡ false
 slot_down plan now slot h e = down_too plan now slot.carrier h (and_parts (slot.carrier == plan.control) (slot.slot == 0) e).0
 
 pub same_noted : (plan : Settings) (now : Facts) (event : Event) → IsPlan plan → IsSound plan now → IsOfNoCarrier plan now event
@@ -83,7 +95,8 @@ same_noted plan now (Up c) p h none =
     let down : is_up now c ≡ false = unknown_down plan now h c none in
     same_facts (facts_after_event plan now (Up c)) now (rw none refl) refl (rw other refl) (rw other refl)
     (filter_none (λ (s : ActiveCall). s.call.slot.carrier == c) now.calls (none_of_carrier plan now h c down))
-    (both_boxes now.outboxes c (λ n small. h.pool.down (record { carrier = c; slot = n }) small down)) (rw other refl) refl (rw other refl) (rw other refl)
+    (both_boxes now.outboxes c (λ n small. h.pool.down (record { carrier = c; slot = n }) small down)) (rw other refl) refl (rw other refl)
+    (rw other refl)
 same_noted plan now (Lost c) p h none =
     let b : Bool = c == plan.control in
     let down : b ≡ true → is_up now plan.control ≡ false = down_too plan now c none in
@@ -96,13 +109,15 @@ same_noted plan now (Lost c) p h none =
     (kept_or b 0 now.fills (λ e. sym (h.access.unfilled (down e))))
     (kept_or b None now.late (λ e. sym (h.access.unnamed (down e))))
 same_noted plan now (Noise slot) p h none =
-    let same = kept_or (is_control plan slot) (with_noise now.noise) now.noise (λ e. rw (h.access.noiseless (slot_down plan now slot none e)) refl) in
+    let same = kept_or (is_control plan slot) (with_noise now.noise) now.noise
+    (λ e. rw (h.access.noiseless (slot_down plan now slot none e)) refl) in
     same_facts (facts_after_event plan now (Noise slot)) now refl refl refl refl refl refl same refl refl refl
 same_noted plan now (Active slot) p h none =
     let same = same_marked now.calls slot (none_there plan now h slot none) in
     same_facts (facts_after_event plan now (Active slot)) now refl refl refl refl same refl refl refl refl refl
 same_noted plan now (Poll c) p h none =
-    let same = kept_or (c == plan.control) (with_poll now.noise) now.noise (λ e. rw (h.access.noiseless (down_too plan now c none e)) refl) in
+    let same =
+    kept_or (c == plan.control) (with_poll now.noise) now.noise (λ e. rw (h.access.noiseless (down_too plan now c none e)) refl) in
     same_facts (facts_after_event plan now (Poll c)) now refl refl refl refl refl refl same refl refl refl
 same_noted plan now (Heard slot pdu) p h none = refl
 same_noted plan now Tick p h none = elim none [ ]

@@ -1,6 +1,6 @@
 -- Sound facts stay sound through each event.
-use Rattle.std.proofs.Common.{◌≡◌, ◌<◌, ◌≤◌, ◌+◌, ◌*◌, ℕ, zero, suc, List, [], ◌∷◌, Bool, true, false, refl, sym, ◌∙◌, ap, subst, arith, map, filter, length, ◌⊎◌, inl, inr, set, get_or, length-set}
-use Rattle.std.specs.Prelude.{Option, Some, None, if◌then◌else◌, cond, ◌&&◌, not, find, ◌==◌, slice_set, slice_index_or, option_map}
+use Rattle.std.proofs.Common.{◌≡◌, ◌<◌, ◌≤◌, ◌+◌, ◌*◌, ℕ, zero, suc, List, [], ◌∷◌, Bool, true, false, refl, sym, ◌∙◌, ap, subst, arith, map, length, ◌⊎◌, inl, inr, set, get_or, length-set}
+use Rattle.std.specs.Prelude.{Option, None, if◌then◌else◌, ◌&&◌, not, ◌==◌, slice_set, slice_index_or}
 use Rattle.std.specs.List.{list_any, list_all}
 use Rattle.std.proofs.lemmas.Bool.{cases_Bool, cases_lt, cond_both, false_from_ne_true, eqb-true, eqb-false, and_parts, not-true}
 use Rattle.std.proofs.lemmas.List.Elements.{All-map, All-nil, All-weaker}
@@ -76,7 +76,8 @@ sound-waited plan now h =
       waits = All-map IsWaitCounted ask_after_tick now.asks (λ k d within. omega arith);
     } in
     let radios : AreRadiosSound now.registered now.calls (map ask_after_tick now.asks) now.lines =
-    fewer_engaged now.registered _ _ _ _ _ _ (λ r. omega (arith, total-map (engagements_in_ask r) ask_after_tick (λ a. refl) now.asks)) h.radios in
+    fewer_engaged now.registered _ _ _ _ _ _ (λ r. omega (arith, total-map (engagements_in_ask r) ask_after_tick (λ a. refl) now.asks))
+    h.radios in
     assumption (asks, radios)
 
 -- the noise numbers changed, if `b` is true
@@ -129,7 +130,8 @@ pub emptied_box : (boxes : List (List Pdu)) (c : ℕ) (slot : Slot) → slot.slo
 emptied_box boxes c slot small same =
     let once : List (List Pdu) = slice_set boxes (2 * c) [] in
     elim (small_slot slot.slot small) [
-      | inl e ↦ (let at : place slot ≡ 2 * c = omega arith in rw at (put_either (λ b. b ≡ []) once (2 * c + 1) (2 * c) [] refl (put_none boxes (2 * c))))
+      | inl e ↦ (let at : place slot ≡ 2 * c = omega arith in rw at
+          (put_either (λ b. b ≡ []) once (2 * c + 1) (2 * c) [] refl (put_none boxes (2 * c))))
       | inr e ↦ (let at : place slot ≡ 2 * c + 1 = omega arith in rw at (put_none once (2 * c + 1)))
     ]
 
@@ -152,7 +154,10 @@ total_or f false xs = omega arith
 
 -- a carrier came up or was lost: then `up` says which carriers are up, and if it is the control carrier, `begun` has
 -- the noise numbers
-module _ (plan : Settings) (now : Facts) (c : ℕ) (up : List Bool) (begun : List ℕ) (h : IsSound plan now) (carriers : length up ≡ 16) (known : (x : ℕ) → slice_index_or up x false ≡ true → has_carrier plan x ≡ true) (others : (x : ℕ) → (x == c) ≡ false → slice_index_or up x false ≡ is_up now x) (start : (c == plan.control) ≡ true → IsAccessSound (slice_index_or up plan.control false) begun 0 None) where
+module _ (plan : Settings) (now : Facts) (c : ℕ) (up : List Bool) (begun : List ℕ) (h : IsSound plan now) (carriers : length up ≡ 16)
+    (known : (x : ℕ) → slice_index_or up x false ≡ true → has_carrier plan x ≡ true)
+    (others : (x : ℕ) → (x == c) ≡ false → slice_index_or up x false ≡ is_up now x)
+    (start : (c == plan.control) ≡ true → IsAccessSound (slice_index_or up plan.control false) begun 0 None) where
   down_there : (slot : Slot) → slot.slot < 2 → slice_index_or up slot.carrier false ≡ false
       → box (outboxes_without_carrier now.outboxes c) slot ≡ []
   down_there slot small k = elim (cases_Bool (slot.carrier == c)) [
@@ -172,15 +177,18 @@ module _ (plan : Settings) (now : Facts) (c : ℕ) (up : List Bool) (begun : Lis
 
   calls-reset : AreCallsSound plan up (outboxes_without_carrier now.outboxes c) (on_other_carriers c now.calls)
   calls-reset =
-      let f : AreCallsSound plan now.up now.outboxes (on_other_carriers c now.calls) = calls-filter plan now.up now.outboxes (λ x. not (x.carrier == c)) now.calls h.calls in
+      let f : AreCallsSound plan now.up now.outboxes (on_other_carriers c now.calls) =
+      calls-filter plan now.up now.outboxes (λ x. not (x.carrier == c)) now.calls h.calls in
       record {
         apart = f.apart;
         payload = λ slot k.
             let was : IsPayload plan now.up slot = f.payload slot k in
-            let other : (slot.carrier == c) ≡ false = not-true _ (and_parts _ _ (sym (has_call_on-filter (λ x. not (x.carrier == c)) now.calls slot) ∙ k)).0 in
+            let other : (slot.carrier == c) ≡ false =
+            not-true _ (and_parts _ _ (sym (has_call_on-filter (λ x. not (x.carrier == c)) now.calls slot) ∙ k)).0 in
             record { known = was.known; is_up = others slot.carrier other ∙ was.is_up; small = was.small; apart = was.apart };
         quiet = λ slot k. emptied_or (λ b. b ≡ []) now.outboxes c slot refl (f.quiet slot k);
-        own = λ slot call k. emptied_or (λ b. list_all (is_own plan call) b ≡ true) now.outboxes c (control_slot plan) refl (f.own slot call k);
+        own = λ slot call k. emptied_or (λ b. list_all (is_own plan call) b ≡ true) now.outboxes c (control_slot plan) refl
+            (f.own slot call k);
         listed = f.listed;
         few = f.few;
         ages = f.ages;
@@ -209,7 +217,13 @@ module _ (plan : Settings) (now : Facts) (c : ℕ) (up : List Bool) (begun : Lis
         calls = calls-reset;
         asks = emptied_by AreAsksSound b running (is_up now plan.control) now.asks no_asks same h.asks;
         lines = emptied_by (AreLinesSound plan) b running (is_up now plan.control) now.lines no_lines same h.lines;
-        radios = fewer_engaged now.registered _ _ _ _ _ _ (λ r. omega (arith, total_or (engagements_in_ask r) b now.asks, total_or (engagements_in_line r) b now.lines, total-filter (engagements_in_call r) (λ s. not (s.call.slot.carrier == c)) now.calls)) h.radios;
+        radios = fewer_engaged now.registered _ _ _ _ _ _
+            (λ r. omega (
+              arith,
+              total_or (engagements_in_ask r) b now.asks,
+              total_or (engagements_in_line r) b now.lines,
+              total-filter (engagements_in_call r) (λ s. not (s.call.slot.carrier == c)) now.calls,
+            )) h.radios;
         access = access_reset b running (is_up now plan.control) now.noise begun now.fills now.late start same h.access;
       }
 
@@ -241,17 +255,30 @@ not_control plan c p h =
 
 began : (up : Bool) → up ≡ true → IsAccessSound up noise_at_up 0 None
 unfolding noise_at_up
-began up h = record { noiseless = λ k. true_false _ h k; window = λ k. refl; counted = omega arith; unfilled = λ k. refl; unnamed = λ k. refl }
+began up h = record {
+  noiseless = λ k. true_false _ h k;
+  window = λ k. refl;
+  counted = omega arith;
+  unfilled = λ k. refl;
+  unnamed = λ k. refl;
+}
 
 pub over : (up : Bool) → up ≡ false → IsAccessSound up [] 0 None
-over up h = record { noiseless = λ k. refl; window = λ k. true_false _ k h; counted = omega arith; unfilled = λ k. refl; unnamed = λ k. refl }
+over up h = record {
+  noiseless = λ k. refl;
+  window = λ k. true_false _ k h;
+  counted = omega arith;
+  unfilled = λ k. refl;
+  unnamed = λ k. refl;
+}
 
 came_up : (plan : Settings) (now : Facts) (c : ℕ) (b : Bool) → has_carrier plan c ≡ b → KnowsPlan plan → IsSound plan now
     → IsSound plan (record (facts_after_event plan now (Up c)) { up = if b then slice_set now.up c true else now.up })
 came_up plan now c true e p h =
     sound-reset plan now c (slice_set now.up c true) noise_at_up h (length-set now.up c true ∙ h.pool.carriers)
     (λ x. known_set plan now.up c x e (h.pool.known x)) (λ x k. get_or-set_other now.up c x true false (eqb-false x c k))
-    (λ k. began _ (rw (eqb-true c plan.control k) (get_or-set_same now.up plan.control true false (omega (arith, p.numbers plan.control p.control, h.pool.carriers)))))
+    (λ k. began _ (rw (eqb-true c plan.control k)
+    (get_or-set_same now.up plan.control true false (omega (arith, p.numbers plan.control p.control, h.pool.carriers)))))
 came_up plan now c false e p h =
     sound-reset plan now c now.up noise_at_up h h.pool.carriers h.pool.known (λ x k. refl) (λ k. true_false _ k (not_control plan c p e))
 

@@ -1,5 +1,6 @@
 -- Fills and late entries: their conditions and effects.
-use Rattle.std.proofs.Common.{◌≡◌, ◌<◌, ℕ, Bool, true, false, List, subst, arith, refl, sym}
+use Rattle.std.proofs.Common.{◌≡◌, ℕ, Bool, true, false, List, subst, arith, refl, sym, inl, inr}
+use Rattle.std.proofs.lemmas.Bool.{cases_Bool, cond_both}
 use Rattle.std.specs.Prelude.{Option, Some, None, IfSome, ◌&&◌, not, is_some, option_map, unwrap_or, if◌then◌else◌}
 use Rattle.dmr_pdu.specs.declared.slots.Slot.{Slot}
 use Rattle.dmr_pdu.specs.declared.pdu.Pdu.{Pdu}
@@ -34,15 +35,13 @@ access-filled up noise fills late named is_up h = record {
 }
 
 -- a talkgroup's grant is a grant
-pub late_grant : (plan : Settings) (call : Call) → is_grant (grant_pdu plan call true) ≡ true
-late_grant plan call = either call.group refl
-  where
-    either : (b : Bool) → call.group ≡ b → is_grant (grant_pdu plan call true) ≡ true
-    either true e = rw e refl
-    either false e = rw e refl
+late_grant : (plan : Settings) (call : Call) → is_grant (grant_pdu plan call true) ≡ true
+late_grant plan call = elim (cases_Bool call.group) [ inl e ↦ rw e refl | inr e ↦ rw e refl ]
 
 -- the late entry, if the next Fill has one, is of an active talkgroup call
-entry_is_active : (plan : Settings) (calls : List ActiveCall) (b : Bool) (o : Option Call) → IfSome o (λ call. (call_on calls call.slot ≡ Some call) × (call.group ≡ true)) → IfSome (if b then option_map (λ (call : Call). grant_pdu plan call true) o else None) (IsLateOf plan calls)
+entry_is_active : (plan : Settings) (calls : List ActiveCall) (b : Bool) (o : Option Call)
+    → IfSome o (λ call. (call_on calls call.slot ≡ Some call) × (call.group ≡ true))
+    → IfSome (if b then option_map (λ (call : Call). grant_pdu plan call true) o else None) (IsLateOf plan calls)
 entry_is_active plan calls true None none = tt
 entry_is_active plan calls true (Some call) next = record { call = call; stands = next.0; group = next.1; is = refl }
 entry_is_active plan calls false o next = tt
@@ -50,39 +49,43 @@ entry_is_active plan calls false o next = tt
 pub late_is_active : (plan : Settings) (now : Facts) → IfSome (late_entry plan now) (IsLateOf plan now.calls)
 unfolding late_entry
 late_is_active plan now =
-    entry_is_active plan now.calls (is_late_due now.fills && not (is_some now.moving)) (next_call plan now) (next_is_active now.calls (last_slot plan now))
+    entry_is_active plan now.calls (is_late_due now.fills && not (is_some now.moving)) (next_call plan now)
+    (next_is_active now.calls (last_slot plan now))
 
 -- a Fill that is a grant is of an active call
-late_names : (plan : Settings) (calls : List ActiveCall) (slot : Slot) (pdu : Pdu) → slot ≡ control_slot plan → IsLateOf plan calls pdu → MayName plan calls slot pdu (is_grant pdu)
+late_names : (plan : Settings) (calls : List ActiveCall) (slot : Slot) (pdu : Pdu) → slot ≡ control_slot plan → IsLateOf plan calls pdu
+    → MayName plan calls slot pdu (is_grant pdu)
 late_names plan calls slot pdu there late =
     subst (λ (p : Pdu). MayName plan calls slot p (is_grant p)) (sym late.is)
     (rw (late_grant plan late.call) (there, record { call = late.call; late = true; stands = late.stands; is = refl }))
 
-fill_names : (plan : Settings) (calls : List ActiveCall) (slot : Slot) (moving : Option ℕ) (noise : List ℕ) (fills : ℕ) (entry : Option Pdu) → slot ≡ control_slot plan → IfSome entry (IsLateOf plan calls) → MayName plan calls slot (fill_of plan moving noise fills entry) (is_grant (fill_of plan moving noise fills entry))
+fill_names : (plan : Settings) (calls : List ActiveCall) (slot : Slot) (moving : Option ℕ) (noise : List ℕ) (fills : ℕ) (entry : Option Pdu)
+    → slot ≡ control_slot plan → IfSome entry (IsLateOf plan calls)
+    → MayName plan calls slot (fill_of plan moving noise fills entry) (is_grant (fill_of plan moving noise fills entry))
 fill_names plan calls slot (Some lpcn) noise fills entry there late = tt
-fill_names plan calls slot None noise fills entry there late = either (is_late_due fills) entry late
+fill_names plan calls slot None noise fills entry there late =
+    cond_both (is_late_due fills) (unwrap_or entry (aloha_pdu plan noise)) (aloha_pdu plan noise)
+    (λ pdu. MayName plan calls slot pdu (is_grant pdu))
+    (λ e. named entry late) (λ e. tt)
   where
-    either : (b : Bool) (o : Option Pdu) → IfSome o (IsLateOf plan calls) → MayName plan calls slot (if b then unwrap_or o (aloha_pdu plan noise) else aloha_pdu plan noise) (is_grant (if b then unwrap_or o (aloha_pdu plan noise) else aloha_pdu plan noise))
-    either true None late = tt
-    either true (Some pdu) late = late_names plan calls slot pdu there late
-    either false o late = tt
+    named : (o : Option Pdu) → IfSome o (IsLateOf plan calls)
+        → MayName plan calls slot (unwrap_or o (aloha_pdu plan noise)) (is_grant (unwrap_or o (aloha_pdu plan noise)))
+    named None late = tt
+    named (Some pdu) late = late_names plan calls slot pdu there late
 
 -- a Fill is the late entry if there is one, and else not a grant
-fill_entry : (plan : Settings) (moving : Option ℕ) (noise : List ℕ) (fills : ℕ) (o : Option Call) → late_entry_of_fill (fill_of plan moving noise fills (if is_late_due fills && not (is_some moving) then option_map (λ (call : Call). grant_pdu plan call true) o else None)) ≡ (if is_late_due fills && not (is_some moving) then option_map (λ (call : Call). grant_pdu plan call true) o else None)
-fill_entry plan (Some lpcn) noise fills o = either (is_late_due fills)
-  where
-    either : (b : Bool) → None ≡ (if b && false then option_map (λ (call : Call). grant_pdu plan call true) o else None)
-    either true = refl
-    either false = refl
-fill_entry plan None noise fills o = either (is_late_due fills) o
-  where
-    either : (b : Bool) (o : Option Call) → late_entry_of_fill (if b then unwrap_or (if b && true then option_map (λ (call : Call). grant_pdu plan call true) o else None) (aloha_pdu plan noise) else aloha_pdu plan noise) ≡ (if b && true then option_map (λ (call : Call). grant_pdu plan call true) o else None)
-    either true None = refl
-    either true (Some call) = rw (late_grant plan call) refl
-    either false o = refl
+fill_entry : (plan : Settings) (moving : Option ℕ) (noise : List ℕ) (fills : ℕ) (o : Option Call)
+    → let entry : Option Pdu =
+    if is_late_due fills && not (is_some moving) then option_map (λ (call : Call). grant_pdu plan call true) o else None in
+    late_entry_of_fill (fill_of plan moving noise fills entry) ≡ entry
+fill_entry plan (Some lpcn) noise fills o = grind arith
+fill_entry plan None noise fills None = elim (cases_Bool (is_late_due fills)) [ inl e ↦ rw e refl | inr e ↦ rw e refl ]
+fill_entry plan None noise fills (Some call) =
+    elim (cases_Bool (is_late_due fills)) [ inl e ↦ rw e (rw (late_grant plan call) refl) | inr e ↦ rw e refl ]
 
 -- the control slot may be filled at a Poll
-pub fill_may : (plan : Settings) (now : Facts) (c : ℕ) (slot : Slot) → slot ≡ control_slot plan → is_up now plan.control ≡ true → MayDo plan (facts_after_event plan now (Poll c)) (Fill slot (fill_of plan now.moving now.noise now.fills (late_entry plan now)))
+pub fill_may : (plan : Settings) (now : Facts) (c : ℕ) (slot : Slot) → slot ≡ control_slot plan → is_up now plan.control ≡ true
+    → MayDo plan (facts_after_event plan now (Poll c)) (Fill slot (fill_of plan now.moving now.noise now.fills (late_entry plan now)))
 unfolding late_entry
 fill_may plan now c slot there up = record {
   up = up;

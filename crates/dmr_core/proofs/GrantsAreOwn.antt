@@ -1,6 +1,6 @@
 -- The calls after each act: a waiting grant is that of the call on its slot.
-use Rattle.std.proofs.Common.{◌≡◌, List, [], ◌∷◌, ◌++◌, Bool, true, false, refl, sym, ◌∙◌, ap, subst, arith, filter, length, ◌⊎◌, inl, inr}
-use Rattle.std.specs.Prelude.{Option, Some, None, if◌then◌else◌, cond, ◌&&◌, not, find, is_some, ◌==◌, ◌||◌, option_map}
+use Rattle.std.proofs.Common.{◌≡◌, List, [], ◌∷◌, ◌++◌, Bool, true, false, refl, sym, ◌∙◌, ap, subst, arith, filter, ◌⊎◌, inl, inr}
+use Rattle.std.specs.Prelude.{Some, ◌&&◌, find, ◌==◌, option_map}
 use Rattle.std.specs.List.{list_any, list_all}
 use Rattle.std.proofs.lemmas.List.{length-append}
 use Rattle.std.proofs.lemmas.List.Elements.{All-filter, All-push}
@@ -59,7 +59,8 @@ pub call_begun : (cs : List ActiveCall) (new : ActiveCall) → has_call_on cs ne
     → call_on (cs ++ new ∷ []) new.call.slot ≡ Some new.call
 call_begun cs new h =
     ap (option_map (λ (x : ActiveCall). x.call))
-    (find_new (λ s. is_slot s.call.slot new.call.slot) cs new (none_passes (λ s. is_slot s.call.slot new.call.slot) cs h) (itself new.call.slot))
+    (find_new (λ s. is_slot s.call.slot new.call.slot) cs new (none_passes (λ s. is_slot s.call.slot new.call.slot) cs h)
+    (itself new.call.slot))
 
 -- grants
 pub not_grant_own : (plan : Settings) (call : Call) (pdu : Pdu) → is_grant pdu ≡ false → is_own plan call pdu ≡ true
@@ -83,7 +84,8 @@ all_unnamed plan call (x ∷ xs) h =
 -- a call's grant is its own
 pub own_itself : (plan : Settings) (call : Call) (late : Bool) → is_own plan call (grant_pdu plan call late) ≡ true
 own_itself plan call late =
-    let parties : ((call.source == call.source) && (call.target == call.target)) ≡ true = rw (equal_itself call.source, equal_itself call.target) refl in
+    let parties : ((call.source == call.source) && (call.target == call.target)) ≡ true =
+    rw (equal_itself call.source, equal_itself call.target) refl in
     elim (cases_Bool call.group) [ inl e ↦ rw (e, parties) (or_right _ true refl) | inr e ↦ rw (e, parties) (or_right _ true refl) ]
 
 -- a grant is that of the call on the slot that it names, since no two carriers have the same channel
@@ -108,7 +110,8 @@ own_of plan now slot call other late p h here there =
     ]
 
 pub named_own : (plan : Settings) (now : Facts) (slot there : Slot) (call : Call) (pdu : Pdu) (b : Bool) → KnowsPlan plan
-    → IsSound plan now → call_on now.calls slot ≡ Some call → is_grant pdu ≡ b → MayName plan now.calls there pdu b → is_own plan call pdu ≡ true
+    → IsSound plan now → call_on now.calls slot ≡ Some call → is_grant pdu ≡ b → MayName plan now.calls there pdu b →
+    is_own plan call pdu ≡ true
 named_own plan now slot there call pdu true p h k e may = rw may.1.is (own_of plan now slot call may.1.call may.1.late p h k may.1.stands)
 named_own plan now slot there call pdu false p h k e may = not_grant_own plan call pdu e
 

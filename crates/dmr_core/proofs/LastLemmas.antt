@@ -1,6 +1,6 @@
 -- A radio is registered, and a carrier up, exactly if the last opener or closer is an opener.
 use Rattle.std.proofs.Common.{◌≡◌, ◌<◌, ℕ, List, [], ◌∷◌, ◌++◌, Bool, true, false, refl, sym, ◌∙◌, ap, subst, arith, filter, length, length-set, inl, inr}
-use Rattle.std.specs.Prelude.{fold, Option, Some, None, unwrap_or, if◌then◌else◌, cond, ◌||◌, ◌&&◌, not, ◌==◌, slice_set, slice_index_or}
+use Rattle.std.specs.Prelude.{fold, Option, Some, None, unwrap_or, if◌then◌else◌, ◌||◌, ◌&&◌, not, ◌==◌, slice_set, slice_index_or}
 use Rattle.std.specs.List.{list_any}
 use Rattle.std.proofs.lemmas.Bool.Decides.{nat_tests}
 use Rattle.std.proofs.lemmas.List.{get_or-set_same, get_or-set_other}
@@ -30,7 +30,8 @@ left_one : (rs : List ℕ) (q r : ℕ)
 left_one [] q r = grind arith
 left_one (p ∷ rs) q r = let more = left_one rs q r in grind (arith, nat_tests)
 
-one_act : (rs : List ℕ) (act : Act) (r : ℕ) → list_any (λ p. p == r) (registered_by_act rs act) ≡ unwrap_or (of_registration r act) (list_any (λ p. p == r) rs)
+one_act : (rs : List ℕ) (act : Act) (r : ℕ)
+    → list_any (λ p. p == r) (registered_by_act rs act) ≡ unwrap_or (of_registration r act) (list_any (λ p. p == r) rs)
 one_act rs (Joined q) r = joined_one rs q r
 one_act rs (Left q) r = left_one rs q r
 one_act rs _ r = refl
@@ -39,19 +40,23 @@ pub later_first : {X : Type 0} (a b : Option X) (c : X) → unwrap_or (or_earlie
 later_first None b c = refl
 later_first (Some x) b c = refl
 
-all_acts : (acts : List Act) (rs : List ℕ) (r : ℕ) → list_any (λ p. p == r) (fold registered_by_act rs acts) ≡ unwrap_or (last_given (of_registration r) acts) (list_any (λ p. p == r) rs)
+all_acts : (acts : List Act) (rs : List ℕ) (r : ℕ)
+    → list_any (λ p. p == r) (fold registered_by_act rs acts)
+    ≡ unwrap_or (last_given (of_registration r) acts) (list_any (λ p. p == r) rs)
 all_acts [] rs r = refl
 all_acts (act ∷ acts) rs r =
     all_acts acts (registered_by_act rs act) r
     ∙ ap (λ b. unwrap_or (last_given (of_registration r) acts) b) (one_act rs act r)
     ∙ sym (later_first (last_given (of_registration r) acts) (of_registration r act) (list_any (λ p. p == r) rs))
 
-pub registered_by_last : (plan : Settings) (facts : Facts) (journal : List Entry) (r : ℕ) → is_registered (facts_after plan facts journal) r ≡ value_after no_event (of_registration r) (is_registered facts r) journal
+pub registered_by_last : (plan : Settings) (facts : Facts) (journal : List Entry) (r : ℕ) →
+    is_registered (facts_after plan facts journal) r ≡ value_after no_event (of_registration r) (is_registered facts r) journal
 registered_by_last plan facts [] r = refl
 registered_by_last plan facts (entry ∷ earlier) r =
     all_acts entry.acts.list (facts_after plan facts earlier).registered r
     ∙ ap (λ b. unwrap_or (last_given (of_registration r) entry.acts.list) b) (registered_by_last plan facts earlier r)
-    ∙ sym (later_first (last_given (of_registration r) entry.acts.list) None (value_after no_event (of_registration r) (is_registered facts r) earlier))
+    ∙ sym (later_first (last_given (of_registration r) entry.acts.list) None
+    (value_after no_event (of_registration r) (is_registered facts r) earlier))
 
 -- carriers
 pub same_after : {X : Type 0} (acts : List Act) (x : X) → fold same_as_before x acts ≡ x
@@ -78,8 +83,10 @@ clear_one up d c = elim (cases_Bool (d == c)) [
   | inr e ↦ rw e (get_or-set_other up d c false false (eqb-false c d (flipped d c e)))
 ]
 
-one_event : (plan : Settings) (up : List Bool) (event : Event) (c : ℕ) → (has_carrier plan c ≡ true → c < length up) → slice_index_or (up_by_event plan up event) c false ≡ unwrap_or (of_carrier plan c event) (slice_index_or up c false)
-one_event plan up (Up d) c h = set_one up d c (has_carrier plan d) (λ same there. h (subst (λ (n : ℕ). has_carrier plan n ≡ true) same there))
+one_event : (plan : Settings) (up : List Bool) (event : Event) (c : ℕ) → (has_carrier plan c ≡ true → c < length up) →
+    slice_index_or (up_by_event plan up event) c false ≡ unwrap_or (of_carrier plan c event) (slice_index_or up c false)
+one_event plan up (Up d) c h =
+    set_one up d c (has_carrier plan d) (λ same there. h (subst (λ (n : ℕ). has_carrier plan n ≡ true) same there))
 one_event plan up (Lost d) c h = clear_one up d c
 one_event plan up _ c h = refl
 
@@ -92,14 +99,17 @@ length-event plan up (Up d) = length-cond (has_carrier plan d) up d
 length-event plan up (Lost d) = length-set up d false
 length-event plan up _ = refl
 
-length-since : (plan : Settings) (up : List Bool) (journal : List Entry) → length (since (up_by_event plan) same_as_before up journal) ≡ length up
+length-since : (plan : Settings) (up : List Bool) (journal : List Entry) →
+    length (since (up_by_event plan) same_as_before up journal) ≡ length up
 length-since plan up [] = refl
 length-since plan up (entry ∷ earlier) =
-    ap (λ (xs : List Bool). length xs) (same_after entry.acts.list (up_by_event plan (since (up_by_event plan) same_as_before up earlier) entry.event))
+    ap (λ (xs : List Bool). length xs)
+    (same_after entry.acts.list (up_by_event plan (since (up_by_event plan) same_as_before up earlier) entry.event))
     ∙ length-event plan (since (up_by_event plan) same_as_before up earlier) entry.event
     ∙ length-since plan up earlier
 
-pub up_by_last : (plan : Settings) (facts : Facts) (journal : List Entry) (c : ℕ) → (has_carrier plan c ≡ true → c < length facts.up) → is_up (facts_after plan facts journal) c ≡ value_after (of_carrier plan c) no_act (is_up facts c) journal
+pub up_by_last : (plan : Settings) (facts : Facts) (journal : List Entry) (c : ℕ) → (has_carrier plan c ≡ true → c < length facts.up) →
+    is_up (facts_after plan facts journal) c ≡ value_after (of_carrier plan c) no_act (is_up facts c) journal
 up_by_last plan facts [] c h = refl
 up_by_last plan facts (entry ∷ earlier) c h =
     let before : List Bool = since (up_by_event plan) same_as_before facts.up earlier in
@@ -107,4 +117,5 @@ up_by_last plan facts (entry ∷ earlier) c h =
     ap (λ (xs : List Bool). slice_index_or xs c false) (same_after entry.acts.list (up_by_event plan before entry.event))
     ∙ one_event plan before entry.event c within
     ∙ ap (λ b. unwrap_or (of_carrier plan c entry.event) b) (up_by_last plan facts earlier c h)
-    ∙ sym (ap (λ (w : Option Bool). unwrap_or (or_earlier w (of_carrier plan c entry.event)) (value_after (of_carrier plan c) no_act (is_up facts c) earlier)) (no_word entry.acts.list))
+    ∙ sym (ap (λ (w : Option Bool). unwrap_or (or_earlier w (of_carrier plan c entry.event))
+    (value_after (of_carrier plan c) no_act (is_up facts c) earlier)) (no_word entry.acts.list))

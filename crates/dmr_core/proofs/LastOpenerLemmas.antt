@@ -1,7 +1,6 @@
 -- Asks, lines and calls are those that the last opener or closer left.
-use Rattle.std.proofs.Common.{◌≡◌, ◌<◌, ◌≤◌, ℕ, List, [], ◌∷◌, ◌++◌, Bool, true, false, refl, sym, ◌∙◌, ap, subst, arith, map, filter}
+use Rattle.std.proofs.Common.{◌≡◌, ◌<◌, ◌≤◌, ℕ, List, [], ◌∷◌, ◌++◌, Bool, true, false, refl, sym, ◌∙◌, ap, subst, arith, map}
 use Rattle.std.specs.Prelude.{fold, Option, Some, None, unwrap_or, option_map, if◌then◌else◌, cond, not, ◌==◌, find}
-use Rattle.std.proofs.lemmas.Bool.Decides.{nat_tests}
 use Rattle.std.proofs.lemmas.Bool.{eqb-true}
 use Rattle.dmr_pdu.specs.declared.slots.Slot.{Slot}
 use Rattle.dmr_pdu.specs.declared.pdu.Pdu.TheVariants.{TvGrant}
@@ -12,7 +11,7 @@ use Rattle.dmr_calls.specs.declared.line.Line.{Line}
 use Rattle.dmr_calls.specs.declared.call.Call.{Call}
 use Rattle.dmr_calls.specs.declared.call.ActiveCall.{ActiveCall}
 use Rattle.dmr_calls.specs.Asks.{ask_of, new_active_ask, others_than, ask_after_tick}
-use Rattle.dmr_calls.specs.Lines.{line_of, without_line}
+use Rattle.dmr_calls.specs.Lines.{line_of}
 use Rattle.dmr_calls.specs.Calls.{call_on, one_tick_older, is_slot, just_begun, with_activity, on_other_carriers}
 use Rattle.dmr_core.specs.declared.event.Event.{Event}
 use Rattle.dmr_core.specs.declared.event.Event.TheVariants.{Active, Lost, Say, Tick, Up}
@@ -53,11 +52,13 @@ acts_leave at by_act now (act ∷ acts) each =
 -- the last of all decides
 decided : {X : Type 0} (plan : Settings) (facts : Facts) (at : Facts → X) (by_event : Event → Option X) (by_act : Act → Option X)
     → ((now : Facts) (event : Event) → at (facts_after_event plan now event) ≡ unwrap_or (by_event event) (at now)) → (journal : List Entry)
-    → Throughout plan facts (Leaves at by_act) journal → at (facts_after plan facts journal) ≡ value_after by_event by_act (at facts) journal
+    → Throughout plan facts (Leaves at by_act) journal → at (facts_after plan facts journal) ≡ value_after by_event by_act
+    (at facts) journal
 decided plan facts at by_event by_act notes [] each = refl
 decided plan facts at by_event by_act notes (entry ∷ earlier) each =
     let now : Facts = facts_after plan facts earlier in
-    let before = notes now entry.event ∙ ap (λ x. unwrap_or (by_event entry.event) x) (decided plan facts at by_event by_act notes earlier each.1) in
+    let before =
+    notes now entry.event ∙ ap (λ x. unwrap_or (by_event entry.event) x) (decided plan facts at by_event by_act notes earlier each.1) in
     ap at (facts_after-step plan facts entry earlier)
     ∙ acts_leave at by_act (facts_after_event plan now entry.event) entry.acts.list each.0
     ∙ ap (λ x. unwrap_or (last_given by_act entry.acts.list) x) before
@@ -71,8 +72,10 @@ each_of P always now (act ∷ acts) = (always now act, each_of P always (facts_a
 pub everywhere : (plan : Settings) (facts : Facts) (P : Facts → Act → Type 0) → ((now : Facts) (act : Act) → P now act)
     → (journal : List Entry) → Throughout plan facts P journal
 everywhere plan facts P always [] = tt
-everywhere plan facts P always (entry ∷ earlier) =
-    (each_of P always (facts_after_event plan (facts_after plan facts earlier) entry.event) entry.acts.list, everywhere plan facts P always earlier)
+everywhere plan facts P always (entry ∷ earlier) = (
+  each_of P always (facts_after_event plan (facts_after plan facts earlier) entry.event) entry.acts.list,
+  everywhere plan facts P always earlier,
+)
 
 -- what was opened is closed, if the test says so
 closes : {X Y : Type 0} (f : X → Option Y) (b : Bool) (none x : X) → f none ≡ None
@@ -117,7 +120,8 @@ asked : (asks : List ActiveAsk) (ask : Ask) (r : ℕ) (b : Bool) → (ask.source
     → ask_of (others_than ask.source asks ++ new_active_ask ask ∷ []) r ≡ unwrap_or (if b then Some (Some ask) else None) (ask_of asks r)
 asked asks ask r true e =
     let none = find_others (λ (a : ActiveAsk). a.ask.source) ask.source r asks ∙ rw e refl in
-    ap (option_map (λ (a : ActiveAsk). a.ask)) (find_new (λ (a : ActiveAsk). a.ask.source == r) (others_than ask.source asks) (new_active_ask ask) none e)
+    ap (option_map (λ (a : ActiveAsk). a.ask))
+    (find_new (λ (a : ActiveAsk). a.ask.source == r) (others_than ask.source asks) (new_active_ask ask) none e)
 asked asks ask r false e =
     ap (option_map (λ (a : ActiveAsk). a.ask))
     (find_same (λ (a : ActiveAsk). a.ask.source == r) (others_than ask.source asks) (new_active_ask ask) e
@@ -141,7 +145,8 @@ ask_noted plan asks _ r = refl
 pub ask_by_last : (plan : Settings) (facts : Facts) (journal : List Entry) (r : ℕ)
     → ask_of (facts_after plan facts journal).asks r ≡ value_after (closed_with plan.control) (of_ask r) (ask_of facts.asks r) journal
 ask_by_last plan facts journal r =
-    decided plan facts (λ (f : Facts). ask_of f.asks r) (closed_with plan.control) (of_ask r) (λ now event. ask_noted plan now.asks event r) journal
+    decided plan facts (λ (f : Facts). ask_of f.asks r) (closed_with plan.control) (of_ask r)
+    (λ now event. ask_noted plan now.asks event r) journal
     (everywhere plan facts (Leaves (λ (f : Facts). ask_of f.asks r) (of_ask r)) (ask_left r) journal)
 
 -- lines
@@ -153,11 +158,13 @@ line_counts : (r : ℕ) (line : Line) → (line.source == r) ≡ true → 0 < en
 line_counts r line e =
     subst (λ (n : ℕ). 0 < engagements_in_line n line) (eqb-true line.source r e) (source_counts line.group line.source line.target)
 
-pub no_line : (plan : Settings) (now : Facts) (line : Line) → MayDo plan now (Lined line) → find (λ l. l.source == line.source) now.lines ≡ None
+pub no_line : (plan : Settings) (now : Facts) (line : Line) → MayDo plan now (Lined line) →
+    find (λ l. l.source == line.source) now.lines ≡ None
 no_line plan now line may =
     let once = may.2.once line.source in
     let counts = source_counts line.group line.source line.target in
-    none_counts (engagements_in_line line.source) (λ l. l.source == line.source) (line_counts line.source) now.lines (omega (arith, once, counts))
+    none_counts (engagements_in_line line.source) (λ l. l.source == line.source) (line_counts line.source) now.lines
+    (omega (arith, once, counts))
 
 lined : (plan : Settings) (now : Facts) (line : Line) (r : ℕ) (b : Bool) → (line.source == r) ≡ b → MayDo plan now (Lined line)
     → line_of (now.lines ++ line ∷ []) r ≡ unwrap_or (if b then Some (Some line) else None) (line_of now.lines r)
@@ -183,15 +190,18 @@ line_noted plan lines _ r = refl
 begun : (calls : List ActiveCall) (call : Call) (slot : Slot) (b : Bool) → is_slot call.slot slot ≡ b → has_call_on calls call.slot ≡ false
     → call_on (calls ++ just_begun call ∷ []) slot ≡ unwrap_or (if b then Some (Some call) else None) (call_on calls slot)
 begun calls call slot true e none =
-    subst (λ (x : Slot). call_on (calls ++ just_begun call ∷ []) x ≡ Some call) (same_slot call.slot slot e) (call_begun calls (just_begun call) none)
+    subst (λ (x : Slot). call_on (calls ++ just_begun call ∷ []) x ≡ Some call) (same_slot call.slot slot e)
+    (call_begun calls (just_begun call) none)
 begun calls call slot false e none =
     ap (option_map (λ (s : ActiveCall). s.call)) (find_same (λ (s : ActiveCall). is_slot s.call.slot slot) calls (just_begun call) e)
 
 call_left : (plan : Settings) (slot : Slot) (now : Facts) (act : Act) → IsSound plan now → MayDo plan now act
     → Leaves (λ (f : Facts). call_on f.calls slot) (of_call slot) now act
-call_left plan slot now (Began call) h may = begun now.calls call slot (is_slot call.slot slot) refl (free_is plan now call.slot may.free).none
+call_left plan slot now (Began call) h may =
+    begun now.calls call slot (is_slot call.slot slot) refl (free_is plan now call.slot may.free).none
 call_left plan slot now (Ended other) h may =
-    call_on-filter (λ x. not (is_slot x other)) now.calls slot ∙ rw (same_slots other slot) (closes_too (is_slot slot other) (call_on now.calls slot))
+    call_on-filter (λ x. not (is_slot x other)) now.calls slot ∙ rw (same_slots other slot)
+    (closes_too (is_slot slot other) (call_on now.calls slot))
 call_left plan slot now _ h may = refl
 
 carrier_over : (calls : List ActiveCall) (c : ℕ) (slot : Slot)
@@ -203,7 +213,8 @@ carrier_over calls c slot =
 call_changed : (f : ActiveCall → ActiveCall) → ((s : ActiveCall) → (f s).call ≡ s.call) → (calls : List ActiveCall) (slot : Slot)
     → call_on (map f calls) slot ≡ call_on calls slot
 call_changed f same calls slot =
-    found_map (λ (s : ActiveCall). is_slot s.call.slot slot) (λ (s : ActiveCall). s.call) f (λ s. ap (λ (k : Call). is_slot k.slot slot) (same s)) same calls
+    found_map (λ (s : ActiveCall). is_slot s.call.slot slot) (λ (s : ActiveCall). s.call) f
+    (λ s. ap (λ (k : Call). is_slot k.slot slot) (same s)) same calls
 
 pub call_noted : (calls : List ActiveCall) (event : Event) (slot : Slot)
     → call_on (calls_by_event calls event) slot ≡ unwrap_or (closed_with slot.carrier event) (call_on calls slot)
@@ -214,15 +225,20 @@ call_noted calls Tick slot = call_changed one_tick_older (λ s. refl) calls slot
 call_noted calls _ slot = refl
 
 -- a legal journal from sound facts
-module _ (plan : Settings) (facts : Facts) (journal : List Entry) (p : KnowsPlan plan) (h : IsSound plan facts) (legal : IsLegal plan facts journal) where
+module _ (plan : Settings) (facts : Facts) (journal : List Entry) (p : KnowsPlan plan) (h : IsSound plan facts)
+    (legal : IsLegal plan facts journal) where
   pub line_by_last : (r : ℕ)
-      → line_of (facts_after plan facts journal).lines r ≡ value_after (closed_with plan.control) (of_line r) (line_of facts.lines r) journal
+      → line_of (facts_after plan facts journal).lines r ≡ value_after (closed_with plan.control) (of_line r)
+      (line_of facts.lines r) journal
   line_by_last r =
-      decided plan facts (λ (f : Facts). line_of f.lines r) (closed_with plan.control) (of_line r) (λ now event. line_noted plan now.lines event r) journal
+      decided plan facts (λ (f : Facts). line_of f.lines r) (closed_with plan.control) (of_line r)
+      (λ now event. line_noted plan now.lines event r) journal
       (throughout plan facts (Leaves (λ (f : Facts). line_of f.lines r) (of_line r)) (line_left plan r) journal p h legal)
 
   pub call_by_last : (slot : Slot)
-      → call_on (facts_after plan facts journal).calls slot ≡ value_after (closed_with slot.carrier) (of_call slot) (call_on facts.calls slot) journal
+      → call_on (facts_after plan facts journal).calls slot ≡ value_after (closed_with slot.carrier) (of_call slot)
+      (call_on facts.calls slot) journal
   call_by_last slot =
-      decided plan facts (λ (f : Facts). call_on f.calls slot) (closed_with slot.carrier) (of_call slot) (λ now event. call_noted now.calls event slot) journal
+      decided plan facts (λ (f : Facts). call_on f.calls slot) (closed_with slot.carrier) (of_call slot)
+      (λ now event. call_noted now.calls event slot) journal
       (throughout plan facts (Leaves (λ (f : Facts). call_on f.calls slot) (of_call slot)) (call_left plan slot) journal p h legal)

@@ -1,12 +1,18 @@
 -- Lists after elements were added at the end, removed, and changed in place, and the elements found in them.
-use Rattle.std.proofs.Common.{◌≡◌, ◌≤◌, ◌+◌, ℕ, List, [], ◌∷◌, ◌++◌, Bool, true, false, refl, arith, map, filter, length}
-use Rattle.std.specs.Prelude.{cond, find, if◌then◌else◌, not, option_map, slice_get, Option, Some, None, ◌||◌, ◌&&◌, ◌==◌}
+use Rattle.std.proofs.Common.{◌≡◌, ◌≤◌, ◌+◌, ℕ, zero, suc, List, [], ◌∷◌, ◌++◌, Bool, true, false, refl, arith, map, filter, length, get_or, replicate}
+use Rattle.std.specs.Prelude.{find, if◌then◌else◌, not, option_map, slice_get, Option, Some, None, ◌||◌, ◌&&◌, ◌==◌}
 use Rattle.std.proofs.lemmas.Bool.Decides.{nat_tests}
 use Rattle.std.specs.List.{list_any}
 use Rattle.dmr_core.specs.Sound.{total}
 
 pub true_false : {X : Type 0} (b : Bool) → b ≡ true → b ≡ false → X
 true_false b h k = cc
+
+-- a list of one value has it everywhere
+pub replicated : {X : Type 0} (n i : ℕ) (x : X) → get_or (replicate n x) i x ≡ x
+replicated zero i x = refl
+replicated (suc n) zero x = refl
+replicated (suc n) (suc i) x = replicated n i x
 
 -- totals
 pub total-append : {X : Type 0} (f : X → ℕ) (xs : List X) (y : X) → total f (xs ++ y ∷ []) ≡ total f xs + f y

@@ -1,12 +1,11 @@
 -- Registrations, asks, lines and calls are in the order in which they were opened.
-use Rattle.std.proofs.Common.{◌≡◌, ◌<◌, ◌≤◌, ◌+◌, ℕ, suc, List, [], ◌∷◌, ◌++◌, Bool, true, false, refl, sym, ◌∙◌, ap, subst, arith, map, filter, length, append_assoc, get_or, ◌≢◌}
-use Rattle.std.specs.Prelude.{fold, find, Some, None, if◌then◌else◌, cond, not, ◌==◌, ◌||◌, ◌&&◌, flat_map}
+use Rattle.std.proofs.Common.{◌≡◌, ◌<◌, ◌≤◌, ℕ, suc, List, [], ◌∷◌, ◌++◌, Bool, true, false, refl, sym, ◌∙◌, ap, subst, arith, map, filter, length, append_assoc, get_or, ◌≢◌}
+use Rattle.std.specs.Prelude.{fold, if◌then◌else◌, not, ◌==◌, ◌&&◌, flat_map}
 use Rattle.std.specs.List.{list_any}
 use Rattle.std.proofs.lemmas.Bool.Decides.{nat_tests}
 use Rattle.std.proofs.lemmas.List.{append-nil, map-append}
 use Rattle.std.proofs.lemmas.List.Elements.{filter-append, filter_agree}
 use Rattle.std.proofs.lemmas.Bool.{eqb-true, false_from_ne_true, ne_eqb, or_right}
-use Rattle.dmr_pdu.specs.declared.slots.Slot.{Slot}
 use Rattle.dmr_plan.specs.declared.settings.Settings.{Settings}
 use Rattle.dmr_registry.specs.Radios.{AreDistinct}
 use Rattle.dmr_calls.specs.declared.ask.ActiveAsk.{ActiveAsk}
@@ -14,14 +13,13 @@ use Rattle.dmr_calls.specs.declared.line.Line.{Line}
 use Rattle.dmr_calls.specs.declared.call.Call.{Call}
 use Rattle.dmr_calls.specs.declared.call.ActiveCall.{ActiveCall}
 use Rattle.dmr_calls.specs.Asks.{others_than, new_active_ask, ask_after_tick}
-use Rattle.dmr_calls.specs.Calls.{one_tick_older, is_slot, just_begun, with_activity, on_other_carriers}
+use Rattle.dmr_calls.specs.Calls.{one_tick_older, is_slot, just_begun, with_activity}
 use Rattle.dmr_core.specs.declared.event.Event.{Event}
 use Rattle.dmr_core.specs.declared.event.Event.TheVariants.{Active, Lost, Tick, Up}
 use Rattle.dmr_core.specs.declared.act.Act.{Act}
 use Rattle.dmr_core.specs.declared.act.Act.TheVariants.{AskOver, Asked, Began, Ended, Joined, Left, Lined, Unlined}
 use Rattle.dmr_core.specs.declared.entry.Entry.{Entry}
 use Rattle.dmr_core.specs.Facts.{Facts, facts_after_act, facts_after, facts_after_event}
-use Rattle.dmr_core.specs.Words.{has_call_on}
 use Rattle.dmr_core.specs.Journal.{IsLegal}
 use Rattle.dmr_core.specs.Sound.{AreOnDistinctSlots, IsSound, engagements_in_ask, engagements_in_line, total}
 use Rattle.dmr_core.specs.May.{MayDo}
@@ -48,12 +46,14 @@ Single same (x ∷ xs) = (list_any (same x) xs ≡ false) × Single same xs
 
 -- an act adds the one that it opens at the end, in place of an equal one
 abbrev Orders : {X : Type 0} → (X → X → Bool) → (Facts → List X) → (Act → List X) → Facts → Act → Type 0
-Orders same keys by_act now act = (all : List _) → IsInOrder same all (keys now) → IsInOrder same (all ++ by_act act) (keys (facts_after_act now act))
+Orders same keys by_act now act =
+    (all : List _) → IsInOrder same all (keys now) → IsInOrder same (all ++ by_act act) (keys (facts_after_act now act))
 
 -- an event keeps the order
 abbrev Keeps : {X : Type 0} → (X → X → Bool) → Settings → (Facts → List X) → Type 0
 Keeps same plan keys =
-    (now : Facts) (event : Event) (all : List _) → IsInOrder same all (keys now) → IsInOrder same all (keys (facts_after_event plan now event))
+    (now : Facts) (event : Event) (all : List _) → IsInOrder same all (keys now) →
+    IsInOrder same all (keys (facts_after_event plan now event))
 
 module _ {X : Type 0} (same : X → X → Bool) (eq : Equals same) where
   filter_all : (p : X → Bool) (xs : List X) → ((x : X) → list_any (same x) xs ≡ true → p x ≡ true) → filter p xs ≡ xs
@@ -76,10 +76,12 @@ module _ {X : Type 0} (same : X → X → Bool) (eq : Equals same) where
   order_filter all ks q h =
       ap (λ ys. filter q ys) h
       ∙ filter_twice (λ x. list_any (same x) ks) q (last_of_each same all)
-      ∙ sym (filter_agree (λ x. list_any (same x) (filter q ks)) (λ x. q x && list_any (same x) ks) (λ x. any_kept q x ks) (last_of_each same all))
+      ∙ sym (filter_agree (λ x. list_any (same x) (filter q ks)) (λ x. q x && list_any (same x) ks) (λ x. any_kept q x ks)
+      (last_of_each same all))
 
   -- one was opened, and is at the end
-  order_push : (all ks : List X) (k : X) → IsInOrder same all ks → IsInOrder same (all ++ k ∷ []) (filter (λ x. not (same x k)) ks ++ k ∷ [])
+  order_push : (all ks : List X) (k : X) → IsInOrder same all ks → IsInOrder same (all ++ k ∷ [])
+      (filter (λ x. not (same x k)) ks ++ k ∷ [])
   order_push all ks k h =
       let w : X → Bool = λ x. not (same x k) in
       let p : X → Bool = λ x. list_any (same x) ks in
@@ -92,15 +94,18 @@ module _ {X : Type 0} (same : X → X → Bool) (eq : Equals same) where
       ap (λ ys. ys ++ k ∷ []) others ∙ ap (λ ys. filter t (filter w l) ++ ys) last ∙ sym (filter-append t (filter w l) (k ∷ []))
       ∙ ap (λ ys. filter t ys) (sym (last_push all k))
     where
-      tests : (x : X) → (not (same x k) && list_any (same x) ks) ≡ (list_any (same x) (filter (λ y. not (same y k)) ks ++ k ∷ []) && not (same x k))
+      tests : (x : X) → (not (same x k) && list_any (same x) ks) ≡
+          (list_any (same x) (filter (λ y. not (same y k)) ks ++ k ∷ []) && not (same x k))
       tests x =
-          let pushed = any-push (same x) (filter (λ y. not (same y k)) ks) k in let kept = any_kept (λ y. not (same y k)) x ks in grind arith
+          let pushed =
+          any-push (same x) (filter (λ y. not (same y k)) ks) k in let kept = any_kept (λ y. not (same y k)) x ks in grind arith
 
       there : list_any (same k) (filter (λ y. not (same y k)) ks ++ k ∷ []) ≡ true
       there = let pushed = any-push (same k) (filter (λ y. not (same y k)) ks) k in let own = eq.itself k in grind arith
 
   -- there was none before
-  order_new : (all ks : List X) (k : X) → list_any (λ x. same x k) ks ≡ false → IsInOrder same all ks → IsInOrder same (all ++ k ∷ []) (ks ++ k ∷ [])
+  order_new : (all ks : List X) (k : X) → list_any (λ x. same x k) ks ≡ false → IsInOrder same all ks →
+      IsInOrder same (all ++ k ∷ []) (ks ++ k ∷ [])
   order_new all ks k none h =
       subst (λ (ys : List X). IsInOrder same (all ++ k ∷ []) (ys ++ k ∷ [])) (filter_none (λ x. same x k) ks none) (order_push all ks k h)
 
@@ -129,7 +134,8 @@ module _ {X : Type 0} (same : X → X → Bool) (eq : Equals same) where
       → IsInOrder same (all ++ flat_map by_act acts) (keys (fold facts_after_act now acts))
   acts_order keys by_act now [] all each h = order_kept all (keys now) h
   acts_order keys by_act now (act ∷ acts) all each h =
-      subst (λ (ys : List X). IsInOrder same ys (keys (fold facts_after_act (facts_after_act now act) acts))) (append_assoc all (by_act act) (flat_map by_act acts))
+      subst (λ (ys : List X). IsInOrder same ys (keys (fold facts_after_act (facts_after_act now act) acts)))
+      (append_assoc all (by_act act) (flat_map by_act acts))
       (acts_order keys by_act (facts_after_act now act) acts (all ++ by_act act) each.1 (each.0 all h))
 
   ordered : (plan : Settings) (facts : Facts) (keys : Facts → List X) (by_act : Act → List X) → Keeps same plan keys
@@ -139,7 +145,8 @@ module _ {X : Type 0} (same : X → X → Bool) (eq : Equals same) where
   ordered plan facts keys by_act keeps single (entry ∷ earlier) each =
       let now : Facts = facts_after plan facts earlier in
       let all : List X = with_openings by_act (keys facts) earlier in
-      subst (λ (f : Facts). IsInOrder same (all ++ flat_map by_act entry.acts.list) (keys f)) (sym (facts_after-step plan facts entry earlier))
+      subst (λ (f : Facts). IsInOrder same (all ++ flat_map by_act entry.acts.list) (keys f))
+      (sym (facts_after-step plan facts entry earlier))
       (acts_order keys by_act (facts_after_event plan now entry.event) entry.acts.list all each.0
       (keeps now entry.event all (ordered plan facts keys by_act keeps single earlier each.1)))
 
@@ -160,7 +167,8 @@ module _ {X : Type 0} (same : X → X → Bool) (eq : Equals same) where
         subst (λ (zs : List X). IsInOrder same (all ++ key y ∷ []) zs) (sym (map-append key ys (y ∷ [])))
         (order_new all (map key ys) (key y) (any-map _ _ key (λ z. refl) ys ∙ none) h)
 
-    keys_emptied : (all : List X) (b : Bool) (ys : List Y) → IsInOrder same all (map key ys) → IsInOrder same all (map key (if b then [] else ys))
+    keys_emptied : (all : List X) (b : Bool) (ys : List Y) → IsInOrder same all (map key ys) →
+        IsInOrder same all (map key (if b then [] else ys))
     keys_emptied all true ys h = order_none all
     keys_emptied all false ys h = h
 
@@ -178,8 +186,10 @@ any_apart x (y ∷ ys) h = rw (ne_eqb x y (h 0 y (omega arith))) (any_apart x ys
 
 single_radios : (xs : List ℕ) → AreDistinct xs → Single ◌==◌ xs
 single_radios [] h = tt
-single_radios (x ∷ xs) h =
-    (any_apart x xs (λ j d lt. h 0 (suc j) d (omega arith) (omega arith)), single_radios xs (λ i j d lt below. h (suc i) (suc j) d (omega arith) (omega arith)))
+single_radios (x ∷ xs) h = (
+  any_apart x xs (λ j d lt. h 0 (suc j) d (omega arith) (omega arith)),
+  single_radios xs (λ i j d lt below. h (suc i) (suc j) d (omega arith) (omega arith)),
+)
 
 registered_order : (plan : Settings) (now : Facts) (act : Act) → IsSound plan now → MayDo plan now act
     → Orders ◌==◌ (λ (f : Facts). f.registered) joined_by now act
@@ -244,37 +254,46 @@ call_order : (plan : Settings) (now : Facts) (act : Act) → IsSound plan now �
     → Orders is_slot (λ (f : Facts). slots_of_calls f.calls) begun_by now act
 call_order plan now (Began call) sound may = λ all h.
     keys_new is_slot slots (λ (s : ActiveCall). s.call.slot) all now.calls (just_begun call) (free_is plan now call.slot may.free).none h
-call_order plan now (Ended slot) sound may = λ all h. keys_removed is_slot slots (λ (s : ActiveCall). s.call.slot) all (λ x. not (is_slot x slot)) now.calls h
+call_order plan now (Ended slot) sound may = λ all h. keys_removed is_slot slots (λ (s : ActiveCall). s.call.slot) all
+    (λ x. not (is_slot x slot)) now.calls h
 call_order plan now act sound may = λ all h. order_kept is_slot slots all (slots_of_calls now.calls) h
 
 call_keeps : (plan : Settings) → Keeps is_slot plan (λ (f : Facts). slots_of_calls f.calls)
 call_keeps plan now (Up c) all h = keys_filter is_slot slots (λ (s : ActiveCall). s.call.slot) all (λ x. not (x.carrier == c)) now.calls h
 call_keeps plan now (Lost c) all h = keys_filter is_slot slots (λ (s : ActiveCall). s.call.slot) all (λ x. not (x.carrier == c)) now.calls h
 call_keeps plan now (Active there) all h =
-    keys_kept is_slot slots (λ (s : ActiveCall). s.call.slot) all (with_activity there) (λ s. ap (λ (k : Call). k.slot) (marked_call there s)) now.calls h
+    keys_kept is_slot slots (λ (s : ActiveCall). s.call.slot) all (with_activity there)
+    (λ s. ap (λ (k : Call). k.slot) (marked_call there s)) now.calls h
 call_keeps plan now Tick all h = keys_kept is_slot slots (λ (s : ActiveCall). s.call.slot) all one_tick_older (λ s. refl) now.calls h
 call_keeps plan now _ all h = h
 
 module _ (plan : Settings) (facts : Facts) (journal : List Entry) (sound : IsSound plan facts) where
-  pub asks_in_order : IsInOrder ◌==◌ (with_openings asked_by (sources_of_asks facts.asks) journal) (sources_of_asks (facts_after plan facts journal).asks)
+  pub asks_in_order : IsInOrder ◌==◌ (with_openings asked_by (sources_of_asks facts.asks) journal)
+      (sources_of_asks (facts_after plan facts journal).asks)
   asks_in_order =
       ordered ◌==◌ numbers plan facts (λ (f : Facts). sources_of_asks f.asks) asked_by (ask_keeps plan)
-      (single_once (λ (a : ActiveAsk). a.ask.source) engagements_in_ask (λ a. source_counts false a.ask.source a.ask.target) facts.asks (λ r. omega (arith, sound.radios.once r))) journal
+      (single_once (λ (a : ActiveAsk). a.ask.source) engagements_in_ask (λ a. source_counts false a.ask.source a.ask.target) facts.asks
+      (λ r. omega (arith, sound.radios.once r))) journal
       (everywhere plan facts (Orders ◌==◌ (λ (f : Facts). sources_of_asks f.asks) asked_by) ask_order journal)
 
   module _ (p : KnowsPlan plan) (legal : IsLegal plan facts journal) where
     pub registered_in_order : IsInOrder ◌==◌ (with_openings joined_by facts.registered journal) (facts_after plan facts journal).registered
     registered_in_order =
-        ordered ◌==◌ numbers plan facts (λ (f : Facts). f.registered) joined_by (λ now event all h. h) (single_radios facts.registered sound.radios.distinct) journal
+        ordered ◌==◌ numbers plan facts (λ (f : Facts). f.registered) joined_by (λ now event all h. h)
+        (single_radios facts.registered sound.radios.distinct) journal
         (throughout plan facts (Orders ◌==◌ (λ (f : Facts). f.registered) joined_by) (registered_order plan) journal p sound legal)
 
-    pub lines_in_order : IsInOrder ◌==◌ (with_openings lined_by (sources_of_lines facts.lines) journal) (sources_of_lines (facts_after plan facts journal).lines)
+    pub lines_in_order : IsInOrder ◌==◌ (with_openings lined_by (sources_of_lines facts.lines) journal)
+        (sources_of_lines (facts_after plan facts journal).lines)
     lines_in_order =
         ordered ◌==◌ numbers plan facts (λ (f : Facts). sources_of_lines f.lines) lined_by (line_keeps plan)
-        (single_once (λ (l : Line). l.source) engagements_in_line (λ l. source_counts l.group l.source l.target) facts.lines (λ r. omega (arith, sound.radios.once r))) journal
+        (single_once (λ (l : Line). l.source) engagements_in_line (λ l. source_counts l.group l.source l.target) facts.lines
+        (λ r. omega (arith, sound.radios.once r))) journal
         (throughout plan facts (Orders ◌==◌ (λ (f : Facts). sources_of_lines f.lines) lined_by) (line_order plan) journal p sound legal)
 
-    pub calls_in_order : IsInOrder is_slot (with_openings begun_by (slots_of_calls facts.calls) journal) (slots_of_calls (facts_after plan facts journal).calls)
+    pub calls_in_order : IsInOrder is_slot (with_openings begun_by (slots_of_calls facts.calls) journal)
+        (slots_of_calls (facts_after plan facts journal).calls)
     calls_in_order =
-        ordered is_slot slots plan facts (λ (f : Facts). slots_of_calls f.calls) begun_by (call_keeps plan) (single_slots facts.calls sound.calls.apart) journal
+        ordered is_slot slots plan facts (λ (f : Facts). slots_of_calls f.calls) begun_by (call_keeps plan)
+        (single_slots facts.calls sound.calls.apart) journal
         (throughout plan facts (Orders is_slot (λ (f : Facts). slots_of_calls f.calls) begun_by) (call_order plan) journal p sound legal)

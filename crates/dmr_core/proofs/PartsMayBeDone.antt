@@ -1,6 +1,6 @@
 -- The conditions of parts of rules.
-use Rattle.std.proofs.Common.{◌≡◌, ◌<◌, ◌≤◌, ◌+◌, ℕ, zero, suc, List, [], ◌∷◌, ◌++◌, Bool, true, false, refl, ◌∙◌, ap, subst, arith, map, filter, length, ◌⊎◌, inl, inr, set, get_or}
-use Rattle.std.specs.Prelude.{fold, Some, cond, ◌&&◌, not, replicate, find, ◌==◌, ◌||◌}
+use Rattle.std.proofs.Common.{◌≡◌, ◌<◌, ◌≤◌, ◌+◌, ℕ, zero, suc, List, [], ◌∷◌, ◌++◌, Bool, true, false, refl, ◌∙◌, ap, subst, arith, map, length, inl, inr, set, get_or}
+use Rattle.std.specs.Prelude.{fold, Some, cond, ◌&&◌, not, replicate, find, ◌==◌}
 use Rattle.std.specs.List.{list_any}
 use Rattle.std.proofs.lemmas.Bool.{cases_Bool, cases_lt, false_from_ne_true, or_right, eqb-true, and_parts, not-true, or_parts}
 use Rattle.std.proofs.lemmas.Bool.Decides.{nat_tests}
@@ -12,12 +12,11 @@ use Rattle.dmr_pdu.specs.declared.pdu.Pdu.TheVariants.{Ackd, Clear}
 use Rattle.dmr_plan.specs.declared.settings.Settings.{Settings}
 use Rattle.dmr_plan.specs.Plan.{lists_group}
 use Rattle.dmr_calls.specs.declared.ask.ActiveAsk.{ActiveAsk}
-use Rattle.dmr_calls.specs.declared.line.Line.{Line}
 use Rattle.dmr_calls.specs.declared.call.Call.{Call}
 use Rattle.dmr_calls.specs.declared.call.ActiveCall.{ActiveCall}
 use Rattle.dmr_calls.specs.Calls.{call_on, is_slot, just_begun}
 use Rattle.dmr_calls.specs.Engaged.{is_party, is_party_to_ask, is_party_to_call, is_party_to_line}
-use Rattle.dmr_pool.specs.Slots.{box, place, slot_at}
+use Rattle.dmr_pool.specs.Slots.{place, slot_at}
 use Rattle.dmr_pool.specs.Free.{control_slot, names, lowest_free_by}
 use Rattle.dmr_core.specs.declared.act.Act.{Act}
 use Rattle.dmr_core.specs.declared.act.Act.TheVariants.{Began, Ended, Queue}
@@ -29,7 +28,7 @@ use Rattle.dmr_core.specs.May.{AllMayDo, IsGrantOf, MayBegin, MayDo, MayEngage, 
 use Rattle.dmr_core.proofs.PlanLemmas.{KnowsPlan}
 use Rattle.dmr_core.proofs.SlotsStaySound.{IsFree, free_is}
 use Rattle.dmr_core.proofs.GrantsAreOwn.{call_begun, call_is_active}
-use Rattle.dmr_core.proofs.ActsKeepSound.{sound-acts, sound-done, may-append}
+use Rattle.dmr_core.proofs.ActsKeepSound.{sound-acts, sound-done}
 use Rattle.dmr_core.proofs.FreeSlotHasRoom.{few_calls, AreOnSlots}
 use Rattle.dmr_core.proofs.CallsAreApart.{itself, has_call_on-filter}
 use Rattle.dmr_core.proofs.ListLemmas.{true_false}
@@ -138,8 +137,11 @@ clear_may plan now call p h stands =
     let empty : length (outbox now call.slot) ≡ 0 = ap (λ (xs : List Pdu). length xs) (h.calls.quiet call.slot on.0) in
     let none : has_call_on (facts_after_act now (Ended call.slot)).calls call.slot ≡ false =
     has_call_on-filter (λ x. not (is_slot x call.slot)) now.calls call.slot ∙ rw (itself call.slot) refl in
-    let pdu : Pdu = Clear (lpcn_of plan plan.control) call.group call.target plan.tsi in
-    (tt, copies_may plan.clear_copies plan (facts_after_act now (Ended call.slot)) call.slot pdu there.is_up there.small none tt (omega (arith, p.few_clears)))
+    let pdu : Pdu = Clear (lpcn_of plan plan.control) call.group call.target plan.tsi in (
+      tt,
+      copies_may plan.clear_copies plan (facts_after_act now (Ended call.slot)) call.slot pdu there.is_up there.small none tt
+          (omega (arith, p.few_clears)),
+    )
 
 -- a radio that is not engaged
 no_party : (r : ℕ) (group : Bool) (source target : ℕ) → is_party r group source target ≡ false → party r group source target ≡ 0
@@ -155,7 +157,8 @@ pub not_engaged : (now : Facts) (r : ℕ) → is_engaged now r ≡ false → eng
 not_engaged now r h =
     let both = or_parts _ _ h in
     let first = or_parts _ _ both.0 in
-    let calls = none_in (engagements_in_call r) (is_party_to_call r) (λ s. no_party r s.call.group s.call.source s.call.target) now.calls first.0 in
+    let calls =
+    none_in (engagements_in_call r) (is_party_to_call r) (λ s. no_party r s.call.group s.call.source s.call.target) now.calls first.0 in
     let asks = none_in (engagements_in_ask r) (is_party_to_ask r) (λ a. no_party r false a.ask.source a.ask.target) now.asks first.1 in
     let lines = none_in (engagements_in_line r) (is_party_to_line r) (λ l. no_party r l.group l.source l.target) now.lines both.1 in
     omega arith

@@ -1,6 +1,6 @@
 -- Every accepted plan is one that the proofs know.
-use Rattle.std.proofs.Common.{◌≡◌, ℕ, List, [], ◌∷◌, Bool, true, false, refl, sym, ◌∙◌, ap, map, arith}
-use Rattle.std.specs.Prelude.{Some, cond, find, ◌==◌, ◌||◌}
+use Rattle.std.proofs.Common.{◌≡◌, ℕ, List, [], ◌∷◌, true, false, refl, sym, ◌∙◌, ap, map, arith}
+use Rattle.std.specs.Prelude.{Some, find, ◌==◌}
 use Rattle.std.specs.List.{list_any}
 use Rattle.std.proofs.lemmas.Bool.Decides.{nat_tests}
 use Rattle.std.proofs.lemmas.Bool.{eqb-true, or_parts}
@@ -11,7 +11,7 @@ use Rattle.dmr_plan.specs.IsPlan.{IsPlan}
 use Rattle.dmr_core.specs.Facts.{has_carrier}
 use Rattle.dmr_core.specs.Words.{lpcn_of}
 use Rattle.dmr_core.proofs.PlanLemmas.{KnowsPlan}
-use Rattle.dmr_core.proofs.NumberLemmas.{equal_itself, row_below}
+use Rattle.dmr_core.proofs.NumberLemmas.{row_below}
 use Rattle.dmr_core.proofs.ListLemmas.{any-map, any_found, find_any, find_passes}
 
 -- no two rows have the same channel
@@ -22,7 +22,8 @@ HasOwnChannels (r ∷ rows) = (list_any (λ w. w.lpcn == r.lpcn) rows ≡ false)
 pub own_channels : (rows : List CarrierRow) → has_repeat (map (λ (w : CarrierRow). w.lpcn) rows) ≡ false → HasOwnChannels rows
 own_channels [] h = tt
 own_channels (r ∷ rows) h =
-    let both = or_parts (list_any (λ x. x == r.lpcn) (map (λ (w : CarrierRow). w.lpcn) rows)) (has_repeat (map (λ (w : CarrierRow). w.lpcn) rows)) h in
+    let both = or_parts (list_any (λ x. x == r.lpcn) (map (λ (w : CarrierRow). w.lpcn) rows))
+    (has_repeat (map (λ (w : CarrierRow). w.lpcn) rows)) h in
     (sym (any-map (λ x. x == r.lpcn) _ (λ (w : CarrierRow). w.lpcn) (λ w. refl) rows) ∙ both.0, own_channels rows both.1)
 
 -- if two carriers have the same channel, their rows are the same
@@ -39,12 +40,14 @@ one_row (r ∷ rows) a b x y own h k same =
 pub lpcn_is : (plan : Settings) (a : ℕ) (x : CarrierRow) → find (λ r. r.number == a) plan.carriers ≡ Some x → lpcn_of plan a ≡ x.lpcn
 lpcn_is plan a x h = rw h refl
 
-channels_apart : (plan : Settings) → HasOwnChannels plan.carriers → (a b : ℕ) → has_carrier plan a ≡ true → has_carrier plan b ≡ true → lpcn_of plan a ≡ lpcn_of plan b → a ≡ b
+channels_apart : (plan : Settings) → HasOwnChannels plan.carriers → (a b : ℕ) → has_carrier plan a ≡ true → has_carrier plan b ≡ true →
+    lpcn_of plan a ≡ lpcn_of plan b → a ≡ b
 channels_apart plan own a b h k same =
     let x = any_found (λ r. r.number == a) plan.carriers h in
     let y = any_found (λ r. r.number == b) plan.carriers k in
     let one : x.0 ≡ y.0 = one_row plan.carriers a b x.0 y.0 own x.1 y.1 (sym (lpcn_is plan a x.0 x.1) ∙ same ∙ lpcn_is plan b y.0 y.1) in
-    sym (eqb-true x.0.number a (find_passes (λ r. r.number == a) plan.carriers x.0 x.1)) ∙ ap (λ (r : CarrierRow). r.number) one ∙ eqb-true y.0.number b (find_passes (λ r. r.number == b) plan.carriers y.0 y.1)
+    sym (eqb-true x.0.number a (find_passes (λ r. r.number == a) plan.carriers x.0 x.1)) ∙ ap (λ (r : CarrierRow). r.number) one
+    ∙ eqb-true y.0.number b (find_passes (λ r. r.number == b) plan.carriers y.0 y.1)
 
 pub plan_known : (plan : Settings) → IsPlan plan → KnowsPlan plan
 plan_known plan p = record {

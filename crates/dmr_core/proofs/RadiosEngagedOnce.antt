@@ -8,7 +8,7 @@ use Rattle.std.proofs.lemmas.List.{length-append}
 use Rattle.std.proofs.lemmas.List.Folds.{list_any_at}
 use Rattle.std.proofs.lemmas.List.Kept.{AllPairs-filter}
 use Rattle.std.proofs.lemmas.List.Quantifiers.{all_pairs_push}
-use Rattle.dmr_registry.specs.Radios.{AreDistinct, is_registered_in, without}
+use Rattle.dmr_registry.specs.Radios.{is_registered_in, without}
 use Rattle.dmr_calls.specs.declared.ask.Ask.{Ask}
 use Rattle.dmr_calls.specs.declared.ask.ActiveAsk.{ActiveAsk}
 use Rattle.dmr_calls.specs.declared.line.Line.{Line}
@@ -50,7 +50,8 @@ module _ (radios : List ℕ) (calls more_calls : List ActiveCall) (asks more_ask
 module _ (calls : List ActiveCall) (asks : List ActiveAsk) (lines : List Line) where
   -- the engagements that a new call, ask or line adds
   pub with_call : (call : Call) (r : ℕ)
-      → engagements (calls ++ just_begun call ∷ []) asks lines r ≡ engagements calls asks lines r + party r call.group call.source call.target
+      → engagements (calls ++ just_begun call ∷ []) asks lines r ≡ engagements calls asks lines r + party r call.group call.source
+      call.target
   with_call call r = omega (arith, total-append (engagements_in_call r) calls (just_begun call))
 
   pub with_line : (l : Line) (r : ℕ)
@@ -81,7 +82,8 @@ any-others (k ∷ rs) q r differ h = other (any-others rs q r differ)
     other more = grind (arith, nat_tests)
 
 -- a radio joins, or one that is not engaged leaves
-module _ (radios : List ℕ) (calls : List ActiveCall) (asks : List ActiveAsk) (lines : List Line) (h : AreRadiosSound radios calls asks lines) (q : ℕ) where
+module _ (radios : List ℕ) (calls : List ActiveCall) (asks : List ActiveAsk) (lines : List Line)
+    (h : AreRadiosSound radios calls asks lines) (q : ℕ) where
   pub radios-joined : is_registered_in radios q ≡ false → length radios < 4096 → AreRadiosSound (radios ++ q ∷ []) calls asks lines
   radios-joined new few = record {
     distinct = all_pairs_push (λ a b. a ≢ b) radios q h.distinct
@@ -100,4 +102,6 @@ module _ (radios : List ℕ) (calls : List ActiveCall) (asks : List ActiveAsk) (
   }
     where
       other_radio : (r : ℕ) → 0 < engagements calls asks lines r → (r == q) ≡ false
-      other_radio r k = false_from_ne_true _ (λ e. let same : engagements calls asks lines r ≡ engagements calls asks lines q = ap (λ (n : ℕ). engagements calls asks lines n) (eqb-true r q e) in omega arith)
+      other_radio r k = false_from_ne_true _
+          (λ e. let same : engagements calls asks lines r ≡ engagements calls asks lines q = ap (λ (n : ℕ). engagements calls asks lines n)
+          (eqb-true r q e) in omega arith)

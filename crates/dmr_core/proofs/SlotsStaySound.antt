@@ -1,8 +1,8 @@
 -- Slots and their outboxes, after a PDU was queued or sent.
 use Rattle.std.proofs.Common.{◌≡◌, ◌<◌, ◌≤◌, List, [], ◌∷◌, ◌++◌, Bool, true, false, refl, sym, ◌∙◌, subst, arith, length, ◌⊎◌, inl, inr, ◌≢◌, drop, length-set}
-use Rattle.std.specs.Prelude.{◌==◌, slice_set, Some}
+use Rattle.std.specs.Prelude.{slice_set, Some}
 use Rattle.std.specs.List.{list_any, list_all}
-use Rattle.std.proofs.lemmas.Bool.{cases_Bool, or_cases, eqb-true, or_parts, and_parts, not-true}
+use Rattle.std.proofs.lemmas.Bool.{cases_Bool, or_cases, or_parts, and_parts, not-true}
 use Rattle.std.proofs.lemmas.Bool.Decides.{nat_tests}
 use Rattle.std.proofs.lemmas.List.{get_or-set_same, get_or-set_other}
 use Rattle.std.proofs.lemmas.List.Folds.{list_all-append}
@@ -93,7 +93,8 @@ named_there plan now slot pdu true may k = true_false _ (rw may.0 (itself (contr
 named_there plan now slot pdu false may k = refl
 
 -- the outbox of a slot is `v`, after a PDU was queued there or sent
-module _ (plan : Settings) (now : Facts) (p : KnowsPlan plan) (h : IsSound plan now) (there : Slot) (v : List Pdu) (up : is_up now there.carrier ≡ true) (small : there.slot < 2) where
+module _ (plan : Settings) (now : Facts) (p : KnowsPlan plan) (h : IsSound plan now) (there : Slot) (v : List Pdu)
+    (up : is_up now there.carrier ≡ true) (small : there.slot < 2) where
   pub within_boxes : place there < length now.outboxes
   within_boxes = omega (arith, p.numbers there.carrier (h.pool.known there.carrier up), h.pool.slots)
 
@@ -112,7 +113,8 @@ module _ (plan : Settings) (now : Facts) (p : KnowsPlan plan) (h : IsSound plan 
 
   -- no call is active there unless `v` is empty, and each grant in it is that of its call
   pub calls-put : (has_call_on now.calls there ≡ true → v ≡ [])
-      → ((slot : Slot) (call : Call) → call_on now.calls slot ≡ Some call → there ≡ control_slot plan → list_all (is_own plan call) v ≡ true)
+      → ((slot : Slot) (call : Call) → call_on now.calls slot ≡ Some call → there ≡ control_slot plan →
+      list_all (is_own plan call) v ≡ true)
       → AreCallsSound plan now.up (slice_set now.outboxes (place there) v) now.calls
   calls-put quiet own =
       let quiet_too : (s : Slot) → has_call_on now.calls s ≡ true → box (slice_set now.outboxes (place there) v) s ≡ [] =

@@ -1,6 +1,6 @@
 -- Late entries name the talkgroup calls in turn.
 use Rattle.std.proofs.Common.{◌≡◌, ◌≢◌, ◌<◌, ◌≤◌, ◌+◌, ◌-◌, ◌*◌, ◌⊎◌, inl, inr, ℕ, List, [], ◌∷◌, Bool, true, false, refl, sym, ◌∙◌, ap, subst, arith}
-use Rattle.std.specs.Prelude.{◌%◌, ◌==◌, ◌&&◌, fold, Option, Some, None, MatchOption, IfSome, option_map, if◌then◌else◌}
+use Rattle.std.specs.Prelude.{◌%◌, ◌==◌, fold, Option, Some, None, MatchOption, IfSome, option_map, if◌then◌else◌}
 use Rattle.std.specs.List.{list_all}
 use Rattle.std.specs.Option.{option_and_then, option_map_or}
 use Rattle.std.proofs.lemmas.Bool.{and_parts, cases_Bool, cases_eq, cases_lt, eqb-false, eqb-true}
@@ -21,7 +21,6 @@ use Rattle.dmr_core.specs.declared.event.Event.TheVariants.{Active, Lost, Say, T
 use Rattle.dmr_core.specs.declared.command.Command.TheVariants.{Move, Stay}
 use Rattle.dmr_core.specs.declared.act.Act.{Act}
 use Rattle.dmr_core.specs.declared.act.Act.TheVariants.{Began, Ended, Fill}
-use Rattle.dmr_core.specs.declared.act.Acts.{Acts}
 use Rattle.dmr_core.specs.declared.entry.Entry.{Entry}
 use Rattle.dmr_core.specs.declared.named.NamedSlot.{NamedSlot}
 use Rattle.dmr_core.specs.Facts.{Facts, facts_after_act, facts_after, fills_by_act, fills_by_event, has_carrier, late_by_act, facts_after_event}
@@ -37,8 +36,6 @@ use Rattle.dmr_core.proofs.GrantsAreOwn.{call_is_active}
 use Rattle.dmr_core.proofs.FillsAreLateEntries.{late_is_active}
 use Rattle.dmr_core.proofs.FactsFollowEntries.{facts_after-step}
 use Rattle.dmr_core.proofs.ActsKeepSound.{sound-done}
-use Rattle.dmr_core.proofs.EventsKeepSound.{sound-noted}
-use Rattle.dmr_core.proofs.AnswersMayBeDone.{acts_may}
 use Rattle.dmr_core.proofs.ActsAreSafe.{entered, sound_after}
 use Rattle.dmr_core.proofs.LastOpenerLemmas.{call_noted}
 use Rattle.dmr_core.proofs.PlansAreKnown.{plan_known}
@@ -49,7 +46,8 @@ use Rattle.dmr_core.proofs.ListLemmas.{true_false}
 -- the law of dmr_calls about the next talkgroup call
 abbrev TakeTurns : Type 0
 TakeTurns =
-    (calls : List ActiveCall) (last : Option Slot) → MatchOption (group_after calls last) (HasNoGroupCall calls) (IsTurn calls (place_after last))
+    (calls : List ActiveCall) (last : Option Slot) → MatchOption (group_after calls last) (HasNoGroupCall calls)
+    (IsTurn calls (place_after last))
 
 -- a Fill is the late entry that is due
 pub fills_turn : (plan : Settings) (now : Facts) (act : Act) → IsSound plan now → MayDo plan now act → FillsInTurn plan now act
@@ -90,7 +88,8 @@ fills_count plan facts (entry ∷ earlier) small =
     (event_counts plan fills since entry.event (fills_count plan facts earlier small))
 
 -- calls on the same slots pass the same tests
-same_test : (calls other : List ActiveCall) → ((slot : Slot) → call_on calls slot ≡ call_on other slot) → is_group_at calls ≡ is_group_at other
+same_test : (calls other : List ActiveCall) → ((slot : Slot) → call_on calls slot ≡ call_on other slot) →
+    is_group_at calls ≡ is_group_at other
 same_test calls other same = λ i k. option_map_or (λ (call : Call). call.group) (same (slot_at k) i) false
 
 -- the facts after a Fill that is not a grant, and after one that is
@@ -125,7 +124,8 @@ record IsGoing (plan : Settings) (calls : List ActiveCall) (call : Call) (n : �
   pub near : IsWithin (is_group_at calls) (place_after (last_slot plan now)) (place call.slot) d
   pub few : 4 * d + n ≤ 4 * talkgroup_calls calls + now.fills
 
-module _ (turns : TakeTurns) (plan : Settings) (p : IsPlan plan) (calls : List ActiveCall) (call : Call) (target : IsTarget calls call) where
+module _ (turns : TakeTurns) (plan : Settings) (p : IsPlan plan) (calls : List ActiveCall) (call : Call)
+    (target : IsTarget calls call) where
   target_there : is_group_at calls (place call.slot) ≡ true
   target_there =
       let on : is_group_on calls call.slot ≡ true = rw target.stands target.group in
@@ -157,7 +157,8 @@ module _ (turns : TakeTurns) (plan : Settings) (p : IsPlan plan) (calls : List A
           still = h.still;
           same = h.same;
           d = h.d;
-          near = subst (λ (late : Option NamedSlot). IsWithin (is_group_at calls) (place_after (option_and_then (slot_named plan) late)) (place call.slot) h.d) (sym same) h.near;
+          near = subst (λ (late : Option NamedSlot). IsWithin (is_group_at calls) (place_after (option_and_then (slot_named plan) late))
+              (place call.slot) h.d) (sym same) h.near;
           few = omega (arith, h.few, more);
         }
 
@@ -166,7 +167,8 @@ module _ (turns : TakeTurns) (plan : Settings) (p : IsPlan plan) (calls : List A
         → IsTurn now.calls (place_after (last_slot plan now)) other
         → (pdu ≡ grant_pdu plan call true) ⊎ IsGoing plan calls call (n + 1) (facts_after_act now (Fill slot pdu))
     due_turn other due is turn =
-        let payload : IsPayload plan now.up other.slot = sound.calls.payload other.slot (call_is_active now.calls other.slot other turn.stands).0 in
+        let payload : IsPayload plan now.up other.slot =
+        sound.calls.payload other.slot (call_is_active now.calls other.slot other turn.stands).0 in
         let named : NamedSlot = record { channel = lpcn_of plan other.slot.carrier; slot = other.slot.slot } in
         let late : late_by_act now.late (Fill slot pdu) ≡ Some named =
         subst (λ (x : Pdu). late_by_act now.late (Fill slot x) ≡ Some named) (sym is) (rw turn.group refl) in
@@ -179,21 +181,31 @@ module _ (turns : TakeTurns) (plan : Settings) (p : IsPlan plan) (calls : List A
             same = h.same;
             d = h.d - 1;
             near = subst (λ (from : ℕ). IsWithin (is_group_at calls) from (place call.slot) (h.d - 1)) (sym (ap place_after last))
-                (nearer (is_group_at calls) (place_after (last_slot plan now)) (place call.slot) h.d (place other.slot) target.within target_there differ (around other turn.turn) h.near);
-            few = omega (arith, h.few, eqb-true now.fills 3 due, some_left (is_group_at calls) (place_after (last_slot plan now)) (place call.slot) h.d target_there h.near);
+                (nearer (is_group_at calls) (place_after (last_slot plan now)) (place call.slot) h.d
+                (place other.slot) target.within target_there differ (around other turn.turn) h.near);
+            few = omega (
+              arith,
+              h.few,
+              eqb-true now.fills 3 due,
+              some_left (is_group_at calls) (place_after (last_slot plan now))
+                  (place call.slot) h.d target_there h.near,
+            );
           })
         ]
       where
-        same_call : (other : Call) → call_on now.calls other.slot ≡ Some other → other.slot.slot < 2 → place other.slot ≡ place call.slot → other ≡ call
+        same_call : (other : Call) → call_on now.calls other.slot ≡ Some other → other.slot.slot < 2 → place other.slot ≡ place call.slot →
+            other ≡ call
         same_call other stands small e =
-            let slots : other.slot ≡ call.slot = sym (slot_at-place other.slot small) ∙ ap slot_at e ∙ slot_at-place call.slot target.small in
+            let slots : other.slot ≡ call.slot =
+            sym (slot_at-place other.slot small) ∙ ap slot_at e ∙ slot_at-place call.slot target.small in
             let mine : call_on now.calls call.slot ≡ Some call = h.same call.slot ∙ target.stands in
             let yours : call_on now.calls call.slot ≡ Some other = subst (λ (s : Slot). call_on now.calls s ≡ Some other) slots stands in
             cc
 
         around : (other : Call) → IsNext (is_group_at now.calls) (place_after (last_slot plan now)) (place other.slot)
             → IsNext (is_group_at calls) (place_after (last_slot plan now)) (place other.slot)
-        around other turn = subst (λ (g : ℕ → Bool). IsNext g (place_after (last_slot plan now)) (place other.slot)) (same_test now.calls calls h.same) turn
+        around other turn =
+            subst (λ (g : ℕ → Bool). IsNext g (place_after (last_slot plan now)) (place other.slot)) (same_test now.calls calls h.same) turn
 
     fill_step : late_entry_of_fill pdu ≡ late_entry plan now
         → (pdu ≡ grant_pdu plan call true) ⊎ IsGoing plan calls call (n + 1) (facts_after_act now (Fill slot pdu))
@@ -203,7 +215,8 @@ module _ (turns : TakeTurns) (plan : Settings) (p : IsPlan plan) (calls : List A
       | inr due ↦ inr (not_due due entry)
     ]
       where
-        step : (o : Option Call) → next_call plan now ≡ o → MatchOption o (HasNoGroupCall now.calls) (IsTurn now.calls (place_after (last_slot plan now)))
+        step : (o : Option Call) → next_call plan now ≡ o → MatchOption o (HasNoGroupCall now.calls)
+            (IsTurn now.calls (place_after (last_slot plan now)))
             → is_late_due now.fills ≡ true
             → (pdu ≡ grant_pdu plan call true) ⊎ IsGoing plan calls call (n + 1) (facts_after_act now (Fill slot pdu))
         step None e none due =
@@ -225,7 +238,8 @@ module _ (turns : TakeTurns) (plan : Settings) (p : IsPlan plan) (calls : List A
         | inl named ↦ inl (inl named)
         | inr going ↦ elim (acts_go (n + 1) (facts_after_act now (Fill slot pdu)) acts next may.1 (and_parts true _ steady).1 going) [
           | inl later ↦ inl (inr later)
-          | inr left ↦ inr (subst (λ (k : ℕ). IsGoing plan calls call k (fold facts_after_act (facts_after_act now (Fill slot pdu)) acts)) more left)
+          | inr left ↦ inr (subst (λ (k : ℕ). IsGoing plan calls call k (fold facts_after_act (facts_after_act now (Fill slot pdu)) acts))
+              more left)
         ]
       ]
   acts_go n now (Began other ∷ acts) sound may steady h = cc
@@ -233,12 +247,14 @@ module _ (turns : TakeTurns) (plan : Settings) (p : IsPlan plan) (calls : List A
   acts_go n now (act ∷ acts) sound may steady h =
       let next : IsSound plan (facts_after_act now act) = sound-done plan now act (plan_known plan p) sound may.0 in
       let more : n + total fill_in acts ≡ n + (0 + total fill_in acts) = omega arith in
-      elim (acts_go n (facts_after_act now act) acts next may.1 (and_parts true _ steady).1 (record { still = h.still; same = h.same; d = h.d; near = h.near; few = h.few })) [
+      elim (acts_go n (facts_after_act now act) acts next may.1 (and_parts true _ steady).1
+      (record { still = h.still; same = h.same; d = h.d; near = h.near; few = h.few })) [
         | inl later ↦ inl (inr later)
         | inr left ↦ inr (subst (λ (k : ℕ). IsGoing plan calls call k (fold facts_after_act (facts_after_act now act) acts)) more left)
       ]
 
-module _ (turns : TakeTurns) (plan : Settings) (facts : Facts) (call : Call) (p : IsPlan plan) (sound : IsSound plan facts) (still : facts.moving ≡ None) (target : IsTarget facts.calls call) where
+module _ (turns : TakeTurns) (plan : Settings) (facts : Facts) (call : Call) (p : IsPlan plan) (sound : IsSound plan facts)
+    (still : facts.moving ≡ None) (target : IsTarget facts.calls call) where
   goes : (journal : List Entry) → IsLegal plan facts journal → is_steady journal ≡ true
       → IsFilledWith (grant_pdu plan call true) journal ⊎ IsGoing plan facts.calls call (fills_in journal) (facts_after plan facts journal)
   goes [] legal steady = inr (record {
@@ -256,21 +272,31 @@ module _ (turns : TakeTurns) (plan : Settings) (facts : Facts) (call : Call) (p 
       let here = and_parts _ _ both.0 in
       elim (goes earlier legal.1 both.1) [
         | inl named ↦ inl (inr named)
-        | inr going ↦ elim (acts_go turns plan p facts.calls call target (fills_in earlier) after entry.acts.list e.noted e.may here.1 (going_event turns plan p facts.calls call target (fills_in earlier) now entry.event here.0 going)) [
-          | inl named ↦ inl (inl named)
-          | inr left ↦ inr (subst (IsGoing plan facts.calls call (fills_in (entry ∷ earlier))) (sym (facts_after-step plan facts entry earlier)) left)
-        ]
+        | inr going ↦ elim (acts_go turns plan p facts.calls call target (fills_in earlier) after entry.acts.list e.noted e.may here.1
+            (going_event turns plan p facts.calls call target (fills_in earlier) now entry.event here.0 going)) [
+              | inl named ↦ inl (inl named)
+              | inr left ↦ inr (subst (IsGoing plan facts.calls call (fills_in (entry ∷ earlier)))
+                  (sym (facts_after-step plan facts entry earlier)) left)
+            ]
       ]
 
 -- a talkgroup call is on a slot of the site
-target_is : (plan : Settings) (facts : Facts) (call : Call) → KnowsPlan plan → IsSound plan facts → call_on facts.calls call.slot ≡ Some call
+target_is : (plan : Settings) (facts : Facts) (call : Call) → KnowsPlan plan → IsSound plan facts →
+    call_on facts.calls call.slot ≡ Some call
     → call.group ≡ true → IsTarget facts.calls call
 target_is plan facts call p sound stands group =
     let payload : IsPayload plan facts.up call.slot = sound.calls.payload call.slot (call_is_active facts.calls call.slot call stands).0 in
-    record { stands = stands; group = group; small = payload.small; within = omega (arith, payload.small, p.numbers call.slot.carrier payload.known) }
+    record {
+      stands = stands;
+      group = group;
+      small = payload.small;
+      within = omega
+          (arith, payload.small, p.numbers call.slot.carrier payload.known);
+    }
 
 pub named_within : TakeTurns → (plan : Settings) (facts : Facts) (journal : List Entry) (call : Call) → IsPlan plan → IsSound plan facts
-    → IsLegal plan facts journal → is_steady journal ≡ true → facts.moving ≡ None → call_on facts.calls call.slot ≡ Some call → call.group ≡ true
+    → IsLegal plan facts journal → is_steady journal ≡ true → facts.moving ≡ None → call_on facts.calls call.slot ≡ Some call →
+    call.group ≡ true
     → 4 * talkgroup_calls facts.calls ≤ fills_in journal → IsFilledWith (grant_pdu plan call true) journal
 named_within turns plan facts journal call p sound legal steady still stands group enough =
     let target : IsTarget facts.calls call = target_is plan facts call (plan_known plan p) sound stands group in
@@ -278,5 +304,12 @@ named_within turns plan facts journal call p sound legal steady still stands gro
     let last_sound : IsSound plan last = sound_after plan facts journal (plan_known plan p) sound legal in
     elim (goes turns plan facts call p sound still target journal legal steady) [
       | inl named ↦ named
-      | inr going ↦ absurd (omega (arith, enough, going.few, last_sound.access.counted, some_left (is_group_at facts.calls) (place_after (last_slot plan last)) (place call.slot) going.d (target_there turns plan p facts.calls call target) going.near))
+      | inr going ↦ absurd (omega (
+        arith,
+        enough,
+        going.few,
+        last_sound.access.counted,
+        some_left (is_group_at facts.calls) (place_after (last_slot plan last)) (place call.slot) going.d
+            (target_there turns plan p facts.calls call target) going.near,
+      ))
     ]

@@ -11,6 +11,7 @@ invariant_of-self c = (
   ap (λ (p : Slots). p.plan) c.release.ensures ∙ c.self.invariant.1,
   λ s is.
       ap (λ (p : Slots). is_slot_held p.held s) c.release.ensures
-      ∙ ended c.self.inside.pool.held c.self.inside.calls.calls c.args.slot.now c.use_invariant.ensures.held c.slot_is_in_range.ensures c.self.invariant.2 s is
+      ∙ ended c.self.inside.pool.held c.self.inside.calls.calls c.args.slot.now c.use_invariant.ensures.held c.slot_is_in_range.ensures
+      c.self.invariant.2 s is
       ∙ sym (ap (λ (n : ActiveLists). has_call_on n.calls s) c.end_calls_on.ensures),
 )

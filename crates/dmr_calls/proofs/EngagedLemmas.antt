@@ -1,5 +1,5 @@
 -- A radio is engaged exactly if it is a party to a call, an ask or a line.
-use Rattle.std.proofs.Common.{◌≡◌, ℕ, List, [], ◌∷◌, Bool, true, false, refl, ◌∙◌}
+use Rattle.std.proofs.Common.{◌≡◌, ℕ, List, [], ◌∷◌, Bool, true, false, refl, ◌∙◌, arith}
 use Rattle.std.specs.Prelude.{◌||◌, Option, Some, None, find, is_some, option_map, if◌then◌else◌}
 use Rattle.std.specs.List.{list_any}
 use Rattle.std.specs.Option.{option_or}
@@ -12,11 +12,7 @@ use Rattle.dmr_calls.specs.Engaged.{is_party_to_call, is_party_to_ask, is_party_
 -- an element passes a test exactly if one that passes is found
 some_found : {X : Type 0} (test : X → Bool) (xs : List X) → is_some (find test xs) ≡ list_any test xs
 some_found test [] = refl
-some_found test (x ∷ xs) = by_first (test x) (some_found test xs)
-  where
-    by_first : (b : Bool) → is_some (find test xs) ≡ list_any test xs → is_some (if b then Some x else find test xs) ≡ (b || list_any test xs)
-    by_first true same = refl
-    by_first false same = same
+some_found test (x ∷ xs) = let more = some_found test xs in grind arith
 
 -- an element is found exactly if it is found in another form
 some_mapped : {X Y : Type 0} (f : X → Y) (o : Option X) → is_some (option_map f o) ≡ is_some o

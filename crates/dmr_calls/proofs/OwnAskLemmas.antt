@@ -4,6 +4,7 @@ use Rattle.std.specs.Prelude.{◌==◌, ◌&&◌, ◌||◌, not, find, Some, if�
 use Rattle.std.specs.List.{list_any}
 use Rattle.std.specs.Option.{option_map_or}
 use Rattle.std.proofs.lemmas.Bool.Decides.{nat_tests}
+use Rattle.std.proofs.lemmas.List.{length-map}
 use Rattle.std.proofs.lemmas.List.Elements.{filter_passes}
 use Rattle.std.proofs.lemmas.List.Quantifiers.{all_pairs_push}
 use Rattle.dmr_calls.specs.declared.ask.Ask.{Ask}
@@ -27,15 +28,10 @@ same_source [] k d = refl
 same_source (a ∷ asks) zero d = refl
 same_source (a ∷ asks) (suc k) d = same_source asks k d
 
--- a tick changes no count of asks
-same_length : (asks : List ActiveAsk) → length (map ask_after_tick asks) ≡ length asks
-same_length [] = refl
-same_length (a ∷ asks) = ap (λ n. suc n) (same_length asks)
-
 -- the asks after a tick
 pub own_after : (asks : List ActiveAsk) → HaveOwnSources asks → HaveOwnSources (map ask_after_tick asks)
 own_after asks own i j d before within same =
-    own i j d before (omega (arith, same_length asks)) (sym (same_source asks i d) ∙ same ∙ same_source asks j d)
+    own i j d before (omega (arith, length-map asks ask_after_tick)) (sym (same_source asks i d) ∙ same ∙ same_source asks j d)
 
 -- the asks after the first have distinct sources too
 own_tail : (a : ActiveAsk) (asks : List ActiveAsk) → HaveOwnSources (a ∷ asks) → HaveOwnSources asks
@@ -52,22 +48,14 @@ rest_is_other a asks source own same = none_same asks (λ k d within. let other 
 -- the asks of other sources are all but the one of the source
 pub others_count : (asks : List ActiveAsk) (source : ℕ) → HaveOwnSources asks → length (others_than source asks) + (if list_any (λ (a : ActiveAsk). a.ask.source == source) asks then 1 else 0) ≡ length asks
 others_count [] source own = refl
-others_count (a ∷ asks) source own = by_first (a.ask.source == source) (rest_is_other a asks source own) (others_count asks source (own_tail a asks own))
-  where
-    by_first : (b : Bool) → (b ≡ true → list_any (λ (c : ActiveAsk). c.ask.source == source) asks ≡ false) → length (others_than source asks) + (if list_any (λ (c : ActiveAsk). c.ask.source == source) asks then 1 else 0) ≡ length asks → length (if not b then a ∷ others_than source asks else others_than source asks) + (if b || list_any (λ (c : ActiveAsk). c.ask.source == source) asks then 1 else 0) ≡ suc (length asks)
-    by_first true none more = let alone = rw (none refl) at more in omega (arith, alone)
-    by_first false none more = omega (arith, more)
-
--- a test or nothing is the test
-or_false : (a b : Bool) → b ≡ false → (a || b) ≡ a
-or_false true b none = refl
-or_false false b none = none
+others_count (a ∷ asks) source own =
+    let none = rest_is_other a asks source own in let more = others_count asks source (own_tail a asks own) in grind arith
 
 -- the target of a source's one ask decides whether the source asks the target
 pub own_ask_read : (asks : List ActiveAsk) (source target : ℕ) → HaveOwnSources asks → has_own_ask asks source target ≡ option_map_or (λ (c : ActiveAsk). c.ask.target == target) (find (λ c. c.ask.source == source) asks) false
 own_ask_read [] source target own = refl
-own_ask_read (a ∷ asks) source target own = by_first (a.ask.source == source) (rest_is_other a asks source own) (own_ask_read asks source target (own_tail a asks own))
-  where
-    by_first : (b : Bool) → (b ≡ true → list_any (λ (c : ActiveAsk). c.ask.source == source) asks ≡ false) → has_own_ask asks source target ≡ option_map_or (λ (c : ActiveAsk). c.ask.target == target) (find (λ c. c.ask.source == source) asks) false → ((b && (a.ask.target == target)) || has_own_ask asks source target) ≡ option_map_or (λ (c : ActiveAsk). c.ask.target == target) (if b then Some a else find (λ c. c.ask.source == source) asks) false
-    by_first true none more = or_false (a.ask.target == target) (has_own_ask asks source target) (none_passes_both (λ (c : ActiveAsk). c.ask.source == source) (λ c. c.ask.target == target) asks (none refl))
-    by_first false none more = more
+own_ask_read (a ∷ asks) source target own =
+    let none : (a.ask.source == source) ≡ true → has_own_ask asks source target ≡ false = λ e.
+        none_passes_both (λ (c : ActiveAsk). c.ask.source == source) (λ c. c.ask.target == target) asks (rest_is_other a asks source own e) in
+    let more = own_ask_read asks source target (own_tail a asks own) in
+    grind arith

@@ -21,21 +21,19 @@ of_carrier a carrier two = grind (arith, nat_tests)
 -- tests that agree on all elements find the same
 find_agree : {X : Type 0} (p q : X → Bool) (xs : List X) → All (λ x. p x ≡ q x) xs → find p xs ≡ find q xs
 find_agree p q [] same = refl
-find_agree p q (x ∷ xs) same = ap (λ b. if b then Some x else find p xs) (same 0 x (omega arith)) ∙ ap (λ o. if q x then Some x else o) (find_agree p q xs (λ k d within. same (suc k) d (omega (arith, within))))
+find_agree p q (x ∷ xs) same =
+    rw (same 0 x (omega arith), find_agree p q xs (λ k d within. same (suc k) d (omega (arith, within)))) refl
 
 -- tests that agree on all elements keep the same
 filter_agree : {X : Type 0} (p q : X → Bool) (xs : List X) → All (λ x. p x ≡ q x) xs → filter p xs ≡ filter q xs
 filter_agree p q [] same = refl
-filter_agree p q (x ∷ xs) same = ap (λ b. if b then x ∷ filter p xs else filter p xs) (same 0 x (omega arith)) ∙ ap (λ ys. if q x then x ∷ ys else ys) (filter_agree p q xs (λ k d within. same (suc k) d (omega (arith, within))))
+filter_agree p q (x ∷ xs) same =
+    rw (same 0 x (omega arith), filter_agree p q xs (λ k d within. same (suc k) d (omega (arith, within)))) refl
 
 -- an element that passes one test and then another passes both
 filter_twice : {X : Type 0} (p q : X → Bool) (xs : List X) → filter q (filter p xs) ≡ filter (λ x. p x && q x) xs
 filter_twice p q [] = refl
-filter_twice p q (x ∷ xs) = by_first (p x) (filter_twice p q xs)
-  where
-    by_first : (b : Bool) → filter q (filter p xs) ≡ filter (λ x. p x && q x) xs → filter q (if b then x ∷ filter p xs else filter p xs) ≡ (if b && q x then x ∷ filter (λ x. p x && q x) xs else filter (λ x. p x && q x) xs)
-    by_first true more = ap (λ ys. if q x then x ∷ ys else ys) more
-    by_first false more = more
+filter_twice p q (x ∷ xs) = let more = filter_twice p q xs in grind arith
 
 -- the first call on a slot is the first of its number
 pub found_on_slot : (calls : List ActiveCall) (slot : Slot) → AreOnSlots calls → slot.slot < 2 → find (λ s. place s.call.slot == place slot) calls ≡ find (λ s. is_slot s.call.slot slot) calls
@@ -58,8 +56,7 @@ on_slots_after calls on = All-map (λ (s : ActiveCall). s.call.slot.slot < 2) on
 -- activity moves no call
 pub on_slots_marked : (slot : Slot) (calls : List ActiveCall) → AreOnSlots calls → AreOnSlots (map (with_activity slot) calls)
 on_slots_marked slot calls on =
-    All-map (λ (s : ActiveCall). s.call.slot.slot < 2) (with_activity slot) calls (λ k d within. stays (get_or calls k d) (is_slot (get_or calls k d).call.slot slot) (on k d within))
+    All-map (λ (s : ActiveCall). s.call.slot.slot < 2) (with_activity slot) calls (λ k d within. stays (get_or calls k d) (on k d within))
   where
-    stays : (s : ActiveCall) (b : Bool) → s.call.slot.slot < 2 → (if b then record { call = s.call; age = s.age; quiet = 0 } else s).call.slot.slot < 2
-    stays s true two = two
-    stays s false two = two
+    stays : (s : ActiveCall) → s.call.slot.slot < 2 → (with_activity slot s).call.slot.slot < 2
+    stays s two = grind arith

@@ -6,4 +6,5 @@ use Rattle.dmr_pool.proofs.pool.all_free.Given as goal
 
 abbrev pub invariant-loop-place : goal.invariant-loop-place
 invariant-loop-place l =
-    (k : ℕ) → k < l.place → has_bit l.free.bits k ≡ is_free (record { plan = l.outboxes.plan; up = l.up; held = l.held; outboxes = l.outboxes.outboxes }) (slot_at k)
+    (k : ℕ) → k < l.place → has_bit l.free.bits k ≡ is_free
+    (record { plan = l.outboxes.plan; up = l.up; held = l.held; outboxes = l.outboxes.outboxes }) (slot_at k)

@@ -6,5 +6,11 @@ use Rattle.dmr_pool.proofs.pool.Pool.is_free.Goals as goal
 
 pub returns : goal.returns
 returns c =
-    let slots : Slots = record { plan = c.self.inside.outboxes.plan; up = c.self.inside.up; held = c.self.inside.held; outboxes = c.self.inside.outboxes.outboxes } in
-    c.has.ensures.value ∙ marked_free c.self.inside.free.bits slots c.args.slot c.has.ensures.numbers c.self.invariant ∙ ap (λ (s : Slots). is_free s c.args.slot) c.self.view_is
+    let slots : Slots = record {
+      plan = c.self.inside.outboxes.plan;
+      up = c.self.inside.up;
+      held = c.self.inside.held;
+      outboxes = c.self.inside.outboxes.outboxes;
+    } in
+    c.has.ensures.value ∙ marked_free c.self.inside.free.bits slots c.args.slot c.has.ensures.numbers c.self.invariant
+    ∙ ap (λ (s : Slots). is_free s c.args.slot) c.self.view_is

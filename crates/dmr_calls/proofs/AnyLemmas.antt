@@ -1,6 +1,6 @@
 -- Whether any element passes a test.
 use Rattle.std.proofs.Common.{◌≡◌, List, [], ◌∷◌, Bool, false, refl, arith}
-use Rattle.std.specs.Prelude.{◌&&◌, ◌||◌}
+use Rattle.std.specs.Prelude.{◌&&◌}
 use Rattle.std.specs.List.{list_any}
 
 -- if none passes one test, none passes that test and another

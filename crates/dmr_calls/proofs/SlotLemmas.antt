@@ -1,6 +1,6 @@
 -- Calls by the numbers of their slots.
-use Rattle.std.proofs.Common.{arith, ◌≡◌, ℕ, suc, ◌+◌, ◌*◌, ◌<◌, List, [], ◌∷◌, Bool, true, false, refl, ap, ◌∙◌, map, get_or}
-use Rattle.std.specs.Prelude.{◌==◌, ◌&&◌, not, find, filter, Some, if◌then◌else◌}
+use Rattle.std.proofs.Common.{arith, ◌≡◌, ℕ, suc, ◌+◌, ◌*◌, ◌<◌, List, [], ◌∷◌, Bool, refl, ap, ◌∙◌, map, get_or}
+use Rattle.std.specs.Prelude.{◌==◌, ◌&&◌, not, find, filter}
 use Rattle.std.specs.List.{All}
 use Rattle.std.proofs.lemmas.Bool.Decides.{nat_tests}
 use Rattle.std.proofs.lemmas.List.Elements.{All-map}
@@ -15,7 +15,8 @@ pub same_number : (a b : Slot) → a.slot < 2 → b.slot < 2 → (place a == pla
 same_number a b a_two b_two = grind (arith, nat_tests)
 
 -- a slot is another carrier's exactly if its number is neither of the carrier's two
-of_carrier : (a : Slot) (carrier : ℕ) → a.slot < 2 → (not (place a == 2 * carrier) && not (place a == 2 * carrier + 1)) ≡ not (a.carrier == carrier)
+of_carrier : (a : Slot) (carrier : ℕ) → a.slot < 2 → (not (place a == 2 * carrier) && not (place a == 2 * carrier + 1)) ≡ not
+    (a.carrier == carrier)
 of_carrier a carrier two = grind (arith, nat_tests)
 
 -- tests that agree on all elements find the same
@@ -36,18 +37,25 @@ filter_twice p q [] = refl
 filter_twice p q (x ∷ xs) = let more = filter_twice p q xs in grind arith
 
 -- the first call on a slot is the first of its number
-pub found_on_slot : (calls : List ActiveCall) (slot : Slot) → AreOnSlots calls → slot.slot < 2 → find (λ s. place s.call.slot == place slot) calls ≡ find (λ s. is_slot s.call.slot slot) calls
-found_on_slot calls slot on two = find_agree (λ s. place s.call.slot == place slot) (λ s. is_slot s.call.slot slot) calls (λ k d within. same_number _ slot (on k d within) two)
+pub found_on_slot : (calls : List ActiveCall) (slot : Slot) → AreOnSlots calls → slot.slot < 2 →
+    find (λ s. place s.call.slot == place slot) calls ≡ find (λ s. is_slot s.call.slot slot) calls
+found_on_slot calls slot on two = find_agree (λ s. place s.call.slot == place slot) (λ s. is_slot s.call.slot slot) calls
+    (λ k d within. same_number _ slot (on k d within) two)
 
 -- the calls on other slots are those of other numbers
-pub left_on_slots : (calls : List ActiveCall) (slot : Slot) → AreOnSlots calls → slot.slot < 2 → filter (λ s. not (place s.call.slot == place slot)) calls ≡ on_other_slots slot calls
-left_on_slots calls slot on two = filter_agree (λ s. not (place s.call.slot == place slot)) (λ s. not (is_slot s.call.slot slot)) calls (λ k d within. ap not (same_number _ slot (on k d within) two))
+pub left_on_slots : (calls : List ActiveCall) (slot : Slot) → AreOnSlots calls → slot.slot < 2 →
+    filter (λ s. not (place s.call.slot == place slot)) calls ≡ on_other_slots slot calls
+left_on_slots calls slot on two = filter_agree (λ s. not (place s.call.slot == place slot)) (λ s. not (is_slot s.call.slot slot)) calls
+    (λ k d within. ap not (same_number _ slot (on k d within) two))
 
 -- the calls of other carriers are those of other numbers than a carrier's two
-pub left_on_carriers : (calls : List ActiveCall) (carrier : ℕ) → AreOnSlots calls → filter (λ s. not (place s.call.slot == 2 * carrier + 1)) (filter (λ s. not (place s.call.slot == 2 * carrier)) calls) ≡ on_other_carriers carrier calls
+pub left_on_carriers : (calls : List ActiveCall) (carrier : ℕ) → AreOnSlots calls →
+    filter (λ s. not (place s.call.slot == 2 * carrier + 1)) (filter (λ s. not (place s.call.slot == 2 * carrier)) calls) ≡
+    on_other_carriers carrier calls
 left_on_carriers calls carrier on =
     filter_twice (λ s. not (place s.call.slot == 2 * carrier)) (λ s. not (place s.call.slot == 2 * carrier + 1)) calls
-    ∙ filter_agree (λ s. not (place s.call.slot == 2 * carrier) && not (place s.call.slot == 2 * carrier + 1)) (λ s. not (s.call.slot.carrier == carrier)) calls (λ k d within. of_carrier _ carrier (on k d within))
+    ∙ filter_agree (λ s. not (place s.call.slot == 2 * carrier) && not (place s.call.slot == 2 * carrier + 1))
+    (λ s. not (s.call.slot.carrier == carrier)) calls (λ k d within. of_carrier _ carrier (on k d within))
 
 -- a tick moves no call
 pub on_slots_after : (calls : List ActiveCall) → AreOnSlots calls → AreOnSlots (map one_tick_older calls)

@@ -21,7 +21,8 @@ called [] slot = refl
 called (s ∷ calls) slot = either (is_slot s.call.slot slot) (called calls slot)
   where
     either : (b : Bool) → is_some (call_on calls slot) ≡ has_call_on calls slot
-        → is_some (option_map (λ (t : ActiveCall). t.call) (cond b (Some s) (find (λ t. is_slot t.call.slot slot) calls))) ≡ (b || has_call_on calls slot)
+        → is_some (option_map (λ (t : ActiveCall). t.call) (cond b (Some s) (find (λ t. is_slot t.call.slot slot) calls))) ≡
+        (b || has_call_on calls slot)
     either true h = refl
     either false h = h
 
@@ -29,7 +30,8 @@ called (s ∷ calls) slot = either (is_slot s.call.slot slot) (called calls slot
 abbrev pub shown_to : Settings → Facts → ℕ → List SlotState
 shown_to plan now places = flat_map (slot_states plan now) (map slot_at (range_with_len 0 places))
 
-pub shown_more : (plan : Settings) (now : Facts) (place : ℕ) → shown_to plan now (place + 1) ≡ shown_to plan now place ++ slot_states plan now (slot_at place)
+pub shown_more : (plan : Settings) (now : Facts) (place : ℕ) → shown_to plan now
+    (place + 1) ≡ shown_to plan now place ++ slot_states plan now (slot_at place)
 shown_more plan now place =
     ap (flat_map (slot_states plan now)) (map-range_with_len_more slot_at 0 place place (omega arith))
     ∙ flat_map-append (slot_states plan now) (map slot_at (range_with_len 0 place)) (slot_at place ∷ [])

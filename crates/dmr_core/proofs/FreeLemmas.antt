@@ -1,6 +1,6 @@
 -- The slots that are free are those of the pool.
 use Rattle.std.proofs.Common.{◌≡◌, ◌≤◌, ◌+◌, ℕ, zero, suc, List, [], ◌∷◌, Bool, true, false, refl, arith, map}
-use Rattle.std.specs.Prelude.{not, cond, ◌&&◌, ◌||◌, ◌==◌, Option, Some, None}
+use Rattle.std.specs.Prelude.{not, cond, ◌&&◌, Option, Some, None}
 use Rattle.std.specs.List.{list_any, find, range_with_len}
 use Rattle.std.specs.Option.{option_map_or}
 use Rattle.dmr_pdu.specs.declared.slots.Slot.{Slot}
@@ -16,20 +16,13 @@ use Rattle.dmr_core.specs.Held.{HoldsCalls}
 
 no_row : (rows : List CarrierRow) (c : ℕ) → row_with rows c ≡ None → has_number_in rows c ≡ false
 no_row [] c h = refl
-no_row (row ∷ rows) c h = either (row.number == c) h (no_row rows c)
-  where
-    either : (b : Bool) → cond b (Some row) (row_with rows c) ≡ None → (row_with rows c ≡ None → has_number_in rows c ≡ false) → (b || has_number_in rows c) ≡ false
-    either true h more = cc
-    either false h more = more h
+no_row (row ∷ rows) c h = let more = no_row rows c in grind arith
 
 -- a grant of a slot whose carrier the plan has names its channel
 pub granted_known : (plan : Settings) (outboxes : List (List Pdu)) (slot : Slot) → has_carrier plan slot.carrier ≡ true
     → is_granted plan.lists outboxes slot ≡ list_any (names (lpcn_of plan slot.carrier) slot.slot) (box outboxes (control_slot plan.lists))
 granted_known plan outboxes slot known = either (row_with plan.lists.carriers slot.carrier) (no_row plan.lists.carriers slot.carrier)
   where
-    waiting : CarrierRow → Bool
-    waiting row = list_any (names row.lpcn slot.slot) (box outboxes (control_slot plan.lists))
-
     either : (found : Option CarrierRow) → (found ≡ None → has_number_in plan.lists.carriers slot.carrier ≡ false)
         → option_map_or (λ (row : CarrierRow). list_any (names row.lpcn slot.slot) (box outboxes (control_slot plan.lists))) found false
         ≡ list_any (names (option_map_or (λ (row : CarrierRow). row.lpcn) found 1) slot.slot) (box outboxes (control_slot plan.lists))
@@ -37,7 +30,8 @@ granted_known plan outboxes slot known = either (row_with plan.lists.carriers sl
     either None none = let no : has_number_in plan.lists.carriers slot.carrier ≡ false = none refl in absurd (cc (known, no))
 
 -- the first that passes is the same if the tests are
-same_find : (p q : Slot → Bool) (from n : ℕ) → from + n ≤ 32 → ((s : Slot) → IsSlot s → p s ≡ q s) → find p (map slot_at (range_with_len from n)) ≡ find q (map slot_at (range_with_len from n))
+same_find : (p q : Slot → Bool) (from n : ℕ) → from + n ≤ 32 → ((s : Slot) → IsSlot s → p s ≡ q s) →
+    find p (map slot_at (range_with_len from n)) ≡ find q (map slot_at (range_with_len from n))
 same_find p q from zero within same = refl
 same_find p q from (suc n) within same =
     let here : p (slot_at from) ≡ q (slot_at from) = same (slot_at from) (omega arith, omega arith) in

@@ -26,6 +26,13 @@ poll_once plan facts slot = sent_once plan facts slot (outbox facts slot)
 pub two_at_a_poll : (plan : Settings) (facts : Facts) (carrier : ℕ) → length (acts_of plan facts (Poll carrier)) ≤ 2
 two_at_a_poll plan facts c = either (is_up facts c)
   where
-    either : (b : Bool) → length (cond b (acts_for_slot plan facts (record { carrier = c; slot = 0 }) ++ acts_for_slot plan facts (record { carrier = c; slot = 1 })) []) ≤ 2
-    either true = omega (arith, length-append (acts_for_slot plan facts (record { carrier = c; slot = 0 })) (acts_for_slot plan facts (record { carrier = c; slot = 1 })), poll_once plan facts (record { carrier = c; slot = 0 }), poll_once plan facts (record { carrier = c; slot = 1 }))
+    either : (b : Bool) → length (cond b
+        (acts_for_slot plan facts (record { carrier = c; slot = 0 }) ++ acts_for_slot plan facts (record { carrier = c; slot = 1 })) []) ≤ 2
+    either true = omega (
+      arith,
+      length-append (acts_for_slot plan facts (record { carrier = c; slot = 0 }))
+          (acts_for_slot plan facts (record { carrier = c; slot = 1 })),
+      poll_once plan facts (record { carrier = c; slot = 0 }),
+      poll_once plan facts (record { carrier = c; slot = 1 }),
+    )
     either false = omega arith

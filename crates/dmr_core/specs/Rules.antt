@@ -204,18 +204,17 @@ acts_for_pdu plan now (Acku info reason spare target additional) =
     acts_for_called_radio plan now reason additional
 acts_for_pdu plan now _ = []
 
--- the first line becomes a call, if a slot is free
-unfoldable pub acts_for_first_line : Settings → Facts → List Act
-acts_for_first_line plan now =
+-- a line, if there is one, becomes a call, if a slot is free
+unfoldable pub acts_for_line : Settings → Facts → Option Line → List Act
+acts_for_line plan now first =
     option_map_or (λ (line : Line). option_map_or (λ (slot : Slot). Unlined line.source
     ∷ begin plan (call_of_line line slot)) (lowest_free plan now)
     [])
-    (first_line now.lines) []
+    first []
 
--- the ask whose last C_AHOY was queued first, if it is due: repeated, or removed after the plan's last try, and its
--- source gets NoReg_MS_Away
-unfoldable pub acts_for_due_ask : Settings → Facts → List Act
-acts_for_due_ask plan now =
+-- an ask that is due is repeated, or removed after the plan's last try, and its source gets NoReg_MS_Away
+unfoldable pub acts_for_due_ask : Settings → Option Ask → List Act
+acts_for_due_ask plan due =
     option_map_or (λ (ask : Ask).
     if nat_lt ask.attempt plan.calls.ahoy_tries
     then Asked (record {
@@ -225,21 +224,24 @@ acts_for_due_ask plan now =
       attempt = ask.attempt + 1;
     }) ∷ ahoy plan ask
     else AskOver ask.source ∷ ack plan ask.source ask.target noreg_ms_away)
-    (due_ask plan.calls.ahoy_wait now.asks) []
+    due []
 
--- the first call that is over is cleared
-unfoldable pub acts_for_due_call : Settings → List ActiveCall → List Act
-acts_for_due_call plan calls =
+-- the call on a slot that is due is cleared
+unfoldable pub acts_for_due_call : Settings → List ActiveCall → Option Slot → List Act
+acts_for_due_call plan calls due =
     option_map_or
-    (λ (slot : Slot). option_map_or (λ (call : Call). clear plan call) (call_on calls slot) [])
-    (due_call plan.calls.hang plan.calls.maximum calls)
+    (λ (slot : Slot). option_map_or (λ (call : Call). clear plan call) (call_on calls slot) []) due
     []
 
--- the acts for a Tick, which has been counted
+-- the acts for a Tick, which has been counted: the first call that is over is cleared. If there is room, the ask whose
+-- last C_AHOY was queued first is answered, if it is due, and the first line is served
 unfoldable pub acts_for_tick : Settings → Facts → List Act
 acts_for_tick plan now =
-    acts_for_due_call plan now.calls
-    ++ (if has_room plan now then acts_for_due_ask plan now ++ acts_for_first_line plan now else [])
+    acts_for_due_call plan now.calls (due_call plan.calls.hang plan.calls.maximum now.calls)
+    ++ (if has_room plan now
+    then acts_for_due_ask plan (due_ask plan.calls.ahoy_wait now.asks)
+    ++ acts_for_line plan now (first_line now.lines)
+    else [])
 
 -- the late entry of the next Fill: the grant of the next talkgroup call. There is one if it is due, the control channel
 -- is not to be moved, and a talkgroup call is active.

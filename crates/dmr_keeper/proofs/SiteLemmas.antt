@@ -135,7 +135,7 @@ stays_the_sites plan facts before journal is = record {
 
 pub within_limits : (plan : Settings) (facts : Facts) (carry : Carry) → IsSound plan facts → IsOfFacts carry facts → IsWithinLimits carry
 within_limits plan facts carry sound is = record {
-  calls = omega (arith, length-map carry.calls standing_of, ap length is.calls, sound.few_calls);
-  lines = omega (arith, length-map carry.lines line_of, ap length is.lines, sound.few_lines);
-  registered = omega (arith, ap length is.registered, sound.few_radios);
+  calls = omega (arith, length-map carry.calls standing_of, ap length is.calls, sound.calls.few);
+  lines = omega (arith, length-map carry.lines line_of, ap length is.lines, sound.lines.few);
+  registered = omega (arith, ap length is.registered, sound.radios.few);
 }

@@ -8,7 +8,7 @@ use Rattle.dmr_core.specs.declared.entry.Entry.{Entry}
 use Rattle.dmr_core.specs.declared.event.Event.TheVariants.{Lost, Poll, Tick, Up}
 use Rattle.dmr_core.specs.Facts.{no_facts}
 use Rattle.dmr_core.specs.Journal.{IsLegal, answer_after_entries}
-use Rattle.dmr_core.specs.Rules.{acts_for_due_ask, acts_for_due_call, acts_for_first_line, acts_for_slot, acts_for_tick}
+use Rattle.dmr_core.specs.Rules.{acts_for_due_ask, acts_for_due_call, acts_for_line, acts_for_slot, acts_for_tick}
 use Rattle.dmr_link.specs.declared.desk.Deposit.{Deposit}
 use Rattle.dmr_desk.specs.declared.ending.Ending.{Ending}
 use Rattle.dmr_desk.specs.declared.ending.Ending.TheVariants as ending
@@ -90,7 +90,7 @@ module _ (others : Settings) where
   poll_answered = refl
 
   tick_answered : no_acts ≡ answer_after_entries plan no_facts (entry 1 (Poll 1) ∷ entry 1 (Up 1) ∷ entry 0 (Up 0) ∷ []) Tick
-  unfolding acts_for_tick acts_for_due_call acts_for_due_ask acts_for_first_line
+  unfolding acts_for_tick acts_for_due_call acts_for_due_ask acts_for_line
   tick_answered = refl
 
   legal : IsLegal plan no_facts (reverse journal)

@@ -24,7 +24,8 @@ hold-requires c =
       fills = c.self.inside.access.fills;
       late = c.self.inside.late;
     } in
-    pool_free c.self.inside.plan facts c.self.inside.pool c.self.invariant.3 refl refl c.self.invariant.4 c.args.call.now.slot c.slot_is_in_range.ensures ∙ may.free
+    pool_free c.self.inside.plan facts c.self.inside.pool c.self.invariant.3 refl refl c.self.invariant.4 c.args.call.now.slot
+    c.slot_is_in_range.ensures ∙ may.free
 
 pub invariant_of-self : goal.invariant_of-self
 invariant_of-self c =
@@ -42,4 +43,5 @@ invariant_of-self c =
     )
 
 pub add_call-requires : goal.add_call-requires
-add_call-requires c = let may = subst (λ (s : SiteState). MayBegin s.plan s.facts c.args.call.now) (sym c.self.view_is) c.requires in may.few
+add_call-requires c =
+    let may = subst (λ (s : SiteState). MayBegin s.plan s.facts c.args.call.now) (sym c.self.view_is) c.requires in may.few

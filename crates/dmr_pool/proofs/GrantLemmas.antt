@@ -39,19 +39,22 @@ module _ (f : CarrierRow → ℕ) (n : ℕ) (p : CarrierRow → Bool) (is_n : (r
   found_any : (rows : List CarrierRow) → has_repeat (map f rows) ≡ false
       → option_map_or q (find p rows) false ≡ list_any (λ row. p row && q row) rows
   found_any [] h = refl
-  found_any (row ∷ rows) h = either (p row) refl (or_parts _ _ h)
+  found_any (row ∷ rows) h =
+      let parts = or_parts _ _ h in
+      either (p row) refl parts.0 (found_any rows parts.1)
     where
       or_no : (b : Bool) → b ≡ (b || false)
       or_no true = refl
       or_no false = refl
 
-      either : (b : Bool) → p row ≡ b → (list_any (λ m. m == f row) (map f rows) ≡ false) × (has_repeat (map f rows) ≡ false)
+      either : (b : Bool) → p row ≡ b → list_any (λ m. m == f row) (map f rows) ≡ false
+          → option_map_or q (find p rows) false ≡ list_any (λ r. p r && q r) rows
           → option_map_or q (cond b (Some row) (find p rows)) false ≡ ((b && q row) || list_any (λ r. p r && q r) rows)
-      either true e parts =
+      either true e others more =
           let it : f row ≡ n = eqb-true (f row) n (sym (is_n row) ∙ e) in
-          let none = none_any rows (subst (λ m. list_any (λ k. k == m) (map f rows) ≡ false) it parts.0) in
+          let none = none_any rows (subst (λ m. list_any (λ k. k == m) (map f rows) ≡ false) it others) in
           or_no (q row) ∙ ap (λ b. q row || b) (sym none)
-      either false e parts = found_any rows parts.1
+      either false e others more = more
 
 -- three tests of each carrier, in another order
 exchanged : (p q : CarrierRow → Bool) (b : Bool) (rows : List CarrierRow)
@@ -216,6 +219,12 @@ module _ (counts : List ℕ) (s : Slot) (i : ℕ) (is : IsSlot s) (at : i ≡ pl
         subst (λ n. 1 ≤ slice_index_or counts n 0) at some,
       )))
 
+-- what holds where a slot is the one, if it is this one
+pub at_its_place : (P : ℕ → Type 0) (one : Option Slot) (s : Slot) (i : ℕ) → one ≡ Some s → IsSlot s → i ≡ place s
+    → ((k : ℕ) → k < 32 → is_this one (slot_at k) ≡ true → P k) → P i
+at_its_place P one s i it is at holds = holds i (omega (arith, is.0, is.1, at))
+    (ap (λ o. is_this o (slot_at i)) it ∙ ap (is_this (Some s)) (ap slot_at at ∙ slot_at-place s is) ∙ this_itself s)
+
 pub none_more : (counts : List ℕ) → IsOneMore counts None counts
 none_more counts k below = omega arith
 
@@ -261,7 +270,7 @@ module _ (lists : ListSection) (are_lists : IsListSection lists) (outboxes : Lis
           control_box lists outboxes slot _ e within ∙ ap (λ (t : Slot). drop 1 (box outboxes t)) control in
           in_less (row s) s (box outboxes (control_slot lists)) pdu (subst (λ (t : Slot). slice_get (box outboxes t) 0 ≡ Some pdu) control first)
           ∙ ap (λ (xs : List Pdu). counted (row s) s xs + cond (named (row s) s pdu) 1 0) (sym there)
-      either false e = ap (counted (row s) s) (sym (other_box lists outboxes slot _ is.1 e)) ∙ omega arith
+      either false e = ap (counted (row s) s) (sym (other_box lists outboxes slot (drop 1 (box outboxes slot)) is.1 e)) ∙ omega arith
 
   pub counted_queued : (before after : List ℕ) → AreCounted lists outboxes before → IsOneMore before granted after
       → AreCounted lists (outboxes_with_pdu outboxes slot pdu) after

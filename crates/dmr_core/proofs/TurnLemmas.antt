@@ -290,8 +290,8 @@ target_is plan facts call p sound stands group =
       stands = stands;
       group = group;
       small = payload.small;
-      within = omega
-          (arith, payload.small, p.numbers call.slot.carrier payload.known);
+      within =
+          omega (arith, payload.small, p.numbers call.slot.carrier payload.known);
     }
 
 pub named_within : TakeTurns → (plan : Settings) (facts : Facts) (journal : List Entry) (call : Call) → IsPlan plan → IsSound plan facts

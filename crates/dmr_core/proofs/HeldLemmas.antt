@@ -10,10 +10,11 @@ use Rattle.dmr_calls.specs.declared.call.ActiveCall.{ActiveCall}
 use Rattle.dmr_calls.specs.Calls.{is_slot, just_begun, one_tick_older, with_activity, on_other_slots, on_other_carriers}
 use Rattle.dmr_pdu.specs.Slots.{slots_of_site}
 use Rattle.dmr_pool.specs.Slots.{IsSlot, place, is_slot_held, held_without_carrier}
+use Rattle.dmr_calls.proofs.Laws.{same_slot}
 use Rattle.dmr_core.specs.Words.{has_call_on}
 use Rattle.dmr_core.specs.Held.{HoldsCalls}
 use Rattle.dmr_core.proofs.ListLemmas.{any-push, replicated}
-use Rattle.dmr_core.proofs.CallsAreApart.{has_call_on-filter, has_call_on-map, marked_call, same_slot, same_slots}
+use Rattle.dmr_core.proofs.CallsAreApart.{has_call_on-filter, has_call_on-map, marked_call, same_slots}
 use Rattle.dmr_core.proofs.SlotsStaySound.{other_place}
 
 -- a slot whose place is written, and another

@@ -69,7 +69,7 @@ place-below a b small also less = elim (cases_lt a.carrier b.carrier) [
 ]
 
 -- slots that are the same by test
-same_slot : (a b : Slot) → is_slot a b ≡ true → a ≡ b
+pub same_slot : (a b : Slot) → is_slot a b ≡ true → a ≡ b
 same_slot a b e =
     let carrier : a.carrier ≡ b.carrier = grind (arith, nat_tests) in
     let number : a.slot ≡ b.slot = grind (arith, nat_tests) in

@@ -11,6 +11,7 @@ use Rattle.dmr_calls.specs.declared.call.Call.{Call}
 use Rattle.dmr_calls.specs.declared.call.ActiveCall.{ActiveCall}
 use Rattle.dmr_calls.specs.Calls.{call_on, one_tick_older, is_slot, just_begun, with_activity}
 use Rattle.dmr_pool.specs.Free.{control_slot, names}
+use Rattle.dmr_calls.proofs.Laws.{same_slot}
 use Rattle.dmr_core.specs.declared.event.Event.{Event}
 use Rattle.dmr_core.specs.declared.event.Event.TheVariants.{Active, Lost, Tick, Up}
 use Rattle.dmr_core.specs.declared.act.Act.{Act}
@@ -33,7 +34,7 @@ use Rattle.dmr_core.proofs.GrantsAreOwn.{named_own, call_is_active, own_itself, 
 use Rattle.dmr_core.proofs.ActsKeepSound.{sound-done, sound-acts}
 use Rattle.dmr_core.proofs.EventsKeepSound.{sound-noted}
 use Rattle.dmr_core.proofs.AnswersMayBeDone.{acts_may}
-use Rattle.dmr_core.proofs.CallsAreApart.{same_slot, marked_call}
+use Rattle.dmr_core.proofs.CallsAreApart.{marked_call}
 
 -- an entry of a legal journal: the facts after its event are sound, and its acts may be done on them
 pub record IsEntered (plan : Settings) (now : Facts) (entry : Entry) : Type 0 where

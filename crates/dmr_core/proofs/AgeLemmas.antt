@@ -14,6 +14,7 @@ use Rattle.dmr_calls.specs.declared.call.ActiveCall.{ActiveCall}
 use Rattle.dmr_calls.specs.Ticks.{one_more}
 use Rattle.dmr_calls.specs.Asks.{ask_of, new_active_ask, others_than, ask_after_tick}
 use Rattle.dmr_calls.specs.Calls.{call_on, one_tick_older, is_slot, just_begun, with_activity, on_other_carriers}
+use Rattle.dmr_calls.proofs.Laws.{same_slot}
 use Rattle.dmr_core.specs.declared.event.Event.{Event}
 use Rattle.dmr_core.specs.declared.event.Event.TheVariants.{Active, Lost, Tick, Up}
 use Rattle.dmr_core.specs.declared.act.Act.{Act}
@@ -27,7 +28,7 @@ use Rattle.dmr_core.specs.May.{MayDo}
 use Rattle.dmr_core.specs.Laws.{EachAct, Throughout}
 use Rattle.dmr_core.specs.Ages.{age_on, asked_in, begins_on, is_active, is_asked, is_begin, quiet_on, is_active_on, ticks_in, ticks_since, waited_of}
 use Rattle.dmr_core.proofs.PlanLemmas.{KnowsPlan}
-use Rattle.dmr_core.proofs.CallsAreApart.{same_slots, marked_call, same_slot}
+use Rattle.dmr_core.proofs.CallsAreApart.{same_slots, marked_call}
 use Rattle.dmr_core.proofs.SlotsStaySound.{free_is}
 use Rattle.dmr_core.proofs.ActsAreSafe.{throughout}
 use Rattle.dmr_core.proofs.LastOpenerLemmas.{everywhere}

@@ -21,6 +21,7 @@ use Rattle.dmr_calls.specs.Due.{due_call, due_ask}
 use Rattle.dmr_core.specs.Rules.{next_fill}
 use Rattle.dmr_pool.specs.Slots.{box, place}
 use Rattle.dmr_pool.specs.Free.{control_slot, names}
+use Rattle.dmr_calls.proofs.Laws.{same_slot}
 use Rattle.dmr_core.specs.declared.request.Request.{Request}
 use Rattle.dmr_core.specs.declared.event.Event.{Event}
 use Rattle.dmr_core.specs.declared.event.Event.TheVariants.{Heard, Poll, Say, Tick}
@@ -46,7 +47,6 @@ use Rattle.dmr_core.proofs.EventsKeepSound.{sound-noted, put_either}
 use Rattle.dmr_core.proofs.PartsMayBeDone.{LeavesRoom, MayAnswer, ack_after, ack_may, after, after_acts, begin_may, clear_may, engage, few_with_free, lowest_small, queue_leaves, queue_may}
 use Rattle.dmr_core.proofs.TalkgroupMayBeDone.{found_may, new_call_may, talkgroup_may}
 use Rattle.dmr_core.proofs.ClosingMayBeDone.{IsCleared, cleared_is, Closes, close_closes, control_apart, found_up}
-use Rattle.dmr_core.proofs.CallsAreApart.{same_slot}
 
 -- registration
 gone_may : {plan : Settings} {later : Facts} (q : Request) (b : Bool) → MayAnswer plan later 7

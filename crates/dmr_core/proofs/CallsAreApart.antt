@@ -1,25 +1,19 @@
 -- Slots that are the same, and calls by their slots.
 use Rattle.std.proofs.Common.{◌≡◌, List, [], ◌∷◌, ◌++◌, Bool, true, false, refl, ◌∙◌, ap, arith, map, filter}
 use Rattle.std.specs.Prelude.{◌&&◌, Some, None, cond}
-use Rattle.std.proofs.lemmas.Bool.{and_parts, cond_both, eqb-true, or_parts}
+use Rattle.std.proofs.lemmas.Bool.{cond_both, or_parts}
 use Rattle.std.proofs.lemmas.Bool.Decides.{nat_tests}
 use Rattle.dmr_pdu.specs.declared.slots.Slot.{Slot}
 use Rattle.dmr_calls.specs.declared.call.Call.{Call}
 use Rattle.dmr_calls.specs.declared.call.ActiveCall.{ActiveCall}
 use Rattle.dmr_calls.specs.Calls.{call_on, is_slot, with_activity}
+use Rattle.dmr_calls.proofs.Laws.{same_slot}
 use Rattle.dmr_core.specs.Words.{has_call_on}
 use Rattle.dmr_core.specs.Sound.{AreOnDistinctSlots}
 use Rattle.dmr_core.proofs.ListLemmas.{any-filter, any-map, any-push}
 
 pub same_slots : (a b : Slot) → is_slot a b ≡ is_slot b a
 same_slots a b = grind (arith, nat_tests)
-
-pub same_slot : (a b : Slot) → is_slot a b ≡ true → a ≡ b
-same_slot a b h =
-    let both = and_parts _ _ h in
-    let p : a.carrier ≡ b.carrier = eqb-true _ _ both.0 in
-    let q : a.slot ≡ b.slot = eqb-true _ _ both.1 in
-    λ i. record { carrier = p i; slot = q i }
 
 pub itself : (a : Slot) → is_slot a a ≡ true
 itself a = grind (arith, nat_tests)

@@ -13,6 +13,7 @@ use Rattle.dmr_calls.specs.declared.call.Call.{Call}
 use Rattle.dmr_calls.specs.declared.call.ActiveCall.{ActiveCall}
 use Rattle.dmr_calls.specs.Calls.{call_on, is_slot, just_begun}
 use Rattle.dmr_pool.specs.Free.{control_slot, names}
+use Rattle.dmr_calls.proofs.Laws.{same_slot}
 use Rattle.dmr_core.specs.Facts.{Facts, has_carrier}
 use Rattle.dmr_core.specs.Words.{lpcn_of, outbox, has_call_on}
 use Rattle.dmr_core.specs.Rules.{grant_pdu}
@@ -21,7 +22,7 @@ use Rattle.dmr_core.specs.May.{MayBegin, MayName}
 use Rattle.dmr_core.proofs.PlanLemmas.{KnowsPlan}
 use Rattle.dmr_core.proofs.NumberLemmas.{equal_itself}
 use Rattle.dmr_core.proofs.ListLemmas.{any_before, any-push, find_any, find_new, find_passes, length-filter_le, mapped_some, none_passes}
-use Rattle.dmr_core.proofs.CallsAreApart.{apart-append, apart-filter, call_after, same_slot, itself}
+use Rattle.dmr_core.proofs.CallsAreApart.{apart-append, apart-filter, call_after, itself}
 use Rattle.dmr_core.proofs.SlotsStaySound.{active_there, IsFree, free_is}
 use Rattle.dmr_core.proofs.LimitsAreKept.{IsCounted, listed_or}
 

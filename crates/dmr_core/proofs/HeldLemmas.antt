@@ -1,7 +1,7 @@
 -- The slots that are held stay those of the calls.
 use Rattle.std.proofs.Common.{◌≡◌, ◌<◌, ◌≢◌, ◌+◌, ◌*◌, ℕ, List, [], ◌∷◌, ◌++◌, Bool, true, false, refl, sym, ◌∙◌, subst, arith, length, length-set, map, inl, inr}
 use Rattle.std.specs.Prelude.{not, ◌||◌, ◌&&◌, ◌==◌, slice_set, slice_index_or, replicate}
-use Rattle.std.proofs.lemmas.Bool.{cases_Bool, eqb-true, or_right}
+use Rattle.std.proofs.lemmas.Bool.{cases_Bool, cases_lt, eqb-true, or_right}
 use Rattle.std.proofs.lemmas.Bool.Decides.{nat_tests}
 use Rattle.std.proofs.lemmas.List.{get_or-set_same, get_or-set_other}
 use Rattle.dmr_pdu.specs.declared.slots.Slot.{Slot}
@@ -10,10 +10,11 @@ use Rattle.dmr_calls.specs.declared.call.ActiveCall.{ActiveCall}
 use Rattle.dmr_calls.specs.Calls.{is_slot, just_begun, one_tick_older, with_activity, on_other_slots, on_other_carriers}
 use Rattle.dmr_pdu.specs.Slots.{slots_of_site}
 use Rattle.dmr_pool.specs.Slots.{IsSlot, place, is_slot_held, held_without_carrier}
+use Rattle.dmr_calls.proofs.Laws.{same_slot}
 use Rattle.dmr_core.specs.Words.{has_call_on}
 use Rattle.dmr_core.specs.Held.{HoldsCalls}
 use Rattle.dmr_core.proofs.ListLemmas.{any-push, replicated}
-use Rattle.dmr_core.proofs.CallsAreApart.{has_call_on-filter, has_call_on-map, marked_call, same_slot, same_slots}
+use Rattle.dmr_core.proofs.CallsAreApart.{has_call_on-filter, has_call_on-map, marked_call, same_slots}
 use Rattle.dmr_core.proofs.SlotsStaySound.{other_place}
 
 -- a slot whose place is written, and another
@@ -64,25 +65,20 @@ counted_held held calls h = mapped held calls one_tick_older (λ t. refl) h
 
 -- a slot of the carrier is released, and every other is unchanged
 released_there : (held : List Bool) (s : Slot) → length held ≡ 32 → IsSlot s → is_slot_held (held_without_carrier held s.carrier) s ≡ false
-released_there held s size is = either (s.slot == 0) refl
-  where
-    first : (s.slot == 0) ≡ true → place s ≡ 2 * s.carrier
-    first e = grind (arith, nat_tests)
-
-    second : (s.slot == 0) ≡ false → place s ≡ 2 * s.carrier + 1
-    second e = grind (arith, nat_tests, is.1)
-
-    either : (b : Bool) → (s.slot == 0) ≡ b → is_slot_held (held_without_carrier held s.carrier) s ≡ false
-    either true e =
-        let at = first e in
-        get_or-set_other (slice_set held (2 * s.carrier) false) (2 * s.carrier + 1) (place s) false false (λ same. absurd (omega arith))
-        ∙ subst (λ n. slice_index_or (slice_set held n false) (place s) false ≡ false) at
-        (get_or-set_same held (place s) false false (omega (arith, size, is.0, is.1)))
-    either false e =
-        let at = second e in
-        subst (λ n. slice_index_or (slice_set (slice_set held (2 * s.carrier) false) n false) (place s) false ≡ false) at
-        (get_or-set_same (slice_set held (2 * s.carrier) false) (place s) false false
-        (omega (arith, size, is.0, is.1, length-set held (2 * s.carrier) false)))
+released_there held s size is = elim (cases_lt s.slot 1) [
+  | inl e ↦ (
+      let at : place s ≡ 2 * s.carrier = omega (arith, e) in
+      get_or-set_other (slice_set held (2 * s.carrier) false) (2 * s.carrier + 1) (place s) false false (λ same. absurd (omega arith))
+      ∙ subst (λ n. slice_index_or (slice_set held n false) (place s) false ≡ false) at
+      (get_or-set_same held (place s) false false (omega (arith, size, is.0, is.1)))
+      )
+  | inr e ↦ (
+      let at : place s ≡ 2 * s.carrier + 1 = omega (arith, e, is.1) in
+      subst (λ n. slice_index_or (slice_set (slice_set held (2 * s.carrier) false) n false) (place s) false ≡ false) at
+      (get_or-set_same (slice_set held (2 * s.carrier) false) (place s) false false
+      (omega (arith, size, is.0, is.1, length-set held (2 * s.carrier) false)))
+      )
+]
 
 released_elsewhere : (held : List Bool) (c : ℕ) (s : Slot) → IsSlot s → (s.carrier == c) ≡ false →
     is_slot_held (held_without_carrier held c) s ≡ is_slot_held held s

@@ -1,6 +1,6 @@
 -- A radio is registered, and a carrier up, exactly if the last opener or closer is an opener.
 use Rattle.std.proofs.Common.{◌≡◌, ◌<◌, ℕ, List, [], ◌∷◌, ◌++◌, Bool, true, false, refl, sym, ◌∙◌, ap, subst, arith, filter, length, length-set, inl, inr}
-use Rattle.std.specs.Prelude.{fold, Option, Some, None, unwrap_or, if◌then◌else◌, ◌||◌, ◌&&◌, not, ◌==◌, slice_set, slice_index_or}
+use Rattle.std.specs.Prelude.{fold, Option, Some, None, unwrap_or, if◌then◌else◌, ◌&&◌, not, ◌==◌, slice_set, slice_index_or}
 use Rattle.std.specs.List.{list_any}
 use Rattle.std.proofs.lemmas.Bool.Decides.{nat_tests}
 use Rattle.std.proofs.lemmas.List.{get_or-set_same, get_or-set_other}
@@ -20,10 +20,7 @@ use Rattle.dmr_core.proofs.EventsKeepSound.{cleared}
 
 joined_one : (rs : List ℕ) (q r : ℕ)
     → list_any (λ p. p == r) (rs ++ q ∷ []) ≡ unwrap_or (if q == r then Some true else None) (list_any (λ p. p == r) rs)
-joined_one rs q r = any-push (λ p. p == r) rs q ∙ either (list_any (λ p. p == r) rs) (q == r)
-  where
-    either : (a b : Bool) → (a || b) ≡ unwrap_or (if b then Some true else None) a
-    either a b = grind arith
+joined_one rs q r = let pushed = any-push (λ p. p == r) rs q in grind arith
 
 left_one : (rs : List ℕ) (q r : ℕ)
     → list_any (λ p. p == r) (filter (λ p. not (p == q)) rs) ≡ unwrap_or (if q == r then Some false else None) (list_any (λ p. p == r) rs)

@@ -13,6 +13,7 @@ use Rattle.dmr_calls.specs.declared.call.ActiveCall.{ActiveCall}
 use Rattle.dmr_calls.specs.Asks.{ask_of, new_active_ask, others_than, ask_after_tick}
 use Rattle.dmr_calls.specs.Lines.{line_of}
 use Rattle.dmr_calls.specs.Calls.{call_on, one_tick_older, is_slot, just_begun, with_activity, on_other_carriers}
+use Rattle.dmr_calls.proofs.Laws.{same_slot}
 use Rattle.dmr_core.specs.declared.event.Event.{Event}
 use Rattle.dmr_core.specs.declared.event.Event.TheVariants.{Active, Lost, Say, Tick, Up}
 use Rattle.dmr_core.specs.declared.command.Command.TheVariants.{Move, Stay}
@@ -34,7 +35,7 @@ use Rattle.dmr_core.proofs.GrantsAreOwn.{call_begun}
 use Rattle.dmr_core.proofs.ActsAreSafe.{source_counts, throughout}
 use Rattle.dmr_core.proofs.LastLemmas.{later_first}
 use Rattle.dmr_core.proofs.FactsFollowEntries.{facts_after-step}
-use Rattle.dmr_core.proofs.CallsAreApart.{call_on-filter, marked_call, same_slot, same_slots}
+use Rattle.dmr_core.proofs.CallsAreApart.{call_on-filter, marked_call, same_slots}
 use Rattle.dmr_core.proofs.NumberLemmas.{turned_numbers}
 
 -- each act leaves its own value, or the one before it

@@ -14,6 +14,7 @@ use Rattle.dmr_calls.specs.declared.call.Call.{Call}
 use Rattle.dmr_calls.specs.declared.call.ActiveCall.{ActiveCall}
 use Rattle.dmr_calls.specs.Asks.{others_than, new_active_ask, ask_after_tick}
 use Rattle.dmr_calls.specs.Calls.{one_tick_older, is_slot, just_begun, with_activity}
+use Rattle.dmr_calls.proofs.Laws.{same_slot}
 use Rattle.dmr_core.specs.declared.event.Event.{Event}
 use Rattle.dmr_core.specs.declared.event.Event.TheVariants.{Active, Lost, Tick, Up}
 use Rattle.dmr_core.specs.declared.act.Act.{Act}
@@ -28,7 +29,7 @@ use Rattle.dmr_core.specs.Orders.{IsInOrder, asked_by, begun_by, joined_by, last
 use Rattle.dmr_core.proofs.PlanLemmas.{KnowsPlan}
 use Rattle.dmr_core.proofs.NumberLemmas.{equal_itself}
 use Rattle.dmr_core.proofs.ListLemmas.{any-map, any-push, filter_none, filter_twice, map_filter, map_kept, none_found}
-use Rattle.dmr_core.proofs.CallsAreApart.{same_slots, marked_call, itself as slot_itself, same_slot}
+use Rattle.dmr_core.proofs.CallsAreApart.{same_slots, marked_call, itself as slot_itself}
 use Rattle.dmr_core.proofs.SlotsStaySound.{free_is}
 use Rattle.dmr_core.proofs.ActsAreSafe.{source_counts, throughout}
 use Rattle.dmr_core.proofs.LastOpenerLemmas.{everywhere, no_line}

@@ -1,26 +1,15 @@
 -- Going round the places: how many are passed before the turn of a place.
 use Rattle.std.proofs.Common.{◌≡◌, ◌≢◌, ◌<◌, ◌≤◌, ◌+◌, ◌-◌, ◌⊎◌, inl, inr, ℕ, zero, suc, List, [], ◌∷◌, Bool, true, false, refl, sym, ◌∙◌, ap, arith, length, filter}
-use Rattle.std.specs.Prelude.{◌/◌, ◌%◌, cond, ◌&&◌}
+use Rattle.std.specs.Prelude.{cond, ◌&&◌}
 use Rattle.std.proofs.lemmas.Bool.{and_parts, and_right, cases_Bool, cases_lt, false_from_ne_true}
 use Rattle.dmr_pdu.specs.declared.slots.Slot.{Slot}
 use Rattle.dmr_calls.specs.declared.call.ActiveCall.{ActiveCall}
 use Rattle.dmr_calls.specs.Calls.{is_slot}
 use Rattle.dmr_pdu.specs.Slots.{place, slot_at}
 use Rattle.dmr_calls.specs.After.{is_group_at, IsNext, NonePass}
+use Rattle.dmr_calls.proofs.Laws.{place-slot_at, same_slot}
 use Rattle.dmr_core.specs.Turns.{talkgroup_calls}
-use Rattle.dmr_core.proofs.CallsAreApart.{same_slot}
 use Rattle.dmr_core.proofs.ListLemmas.{true_false}
-
--- a slot is the one at its place
-pub slot_at-place : (slot : Slot) → slot.slot < 2 → slot_at (place slot) ≡ slot
-slot_at-place slot small =
-    let carrier : place slot / 2 ≡ slot.carrier = omega (arith, small) in
-    let number : place slot % 2 ≡ slot.slot = omega (arith, small) in
-    λ i. record { carrier = carrier i; slot = number i }
-
--- a place is that of its slot
-place-slot_at : (k : ℕ) → place (slot_at k) ≡ k
-place-slot_at k = omega arith
 
 -- 1 if the test passes, else 0
 abbrev pub one : Bool → ℕ

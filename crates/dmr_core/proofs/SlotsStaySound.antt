@@ -14,13 +14,14 @@ use Rattle.dmr_calls.specs.declared.call.ActiveCall.{ActiveCall}
 use Rattle.dmr_calls.specs.Calls.{call_on, is_slot, just_begun}
 use Rattle.dmr_pool.specs.Slots.{box, place}
 use Rattle.dmr_pool.specs.Free.{control_slot, is_empty, names}
+use Rattle.dmr_calls.proofs.Laws.{same_slot}
 use Rattle.dmr_core.specs.Facts.{Facts, has_carrier}
 use Rattle.dmr_core.specs.Words.{is_free, is_up, lpcn_of, outbox, has_call_on}
 use Rattle.dmr_core.specs.Sound.{AreCallsSound, IsPoolSound, IsSound, is_grant, is_own}
 use Rattle.dmr_core.specs.May.{MayName}
 use Rattle.dmr_core.proofs.FreeLemmas.{granted_known}
 use Rattle.dmr_core.proofs.PlanLemmas.{KnowsPlan}
-use Rattle.dmr_core.proofs.CallsAreApart.{itself, same_slot}
+use Rattle.dmr_core.proofs.CallsAreApart.{itself}
 use Rattle.dmr_core.proofs.ListLemmas.{any-push, true_false}
 
 pub other_place : (a b : Slot) → a.slot < 2 → b.slot < 2 → is_slot a b ≡ false → place a ≢ place b

@@ -16,6 +16,7 @@ use Rattle.dmr_calls.specs.declared.call.ActiveCall.{ActiveCall}
 use Rattle.dmr_calls.specs.Calls.{call_on}
 use Rattle.dmr_pdu.specs.Slots.{place, slot_at}
 use Rattle.dmr_calls.specs.After.{group_after, is_group_at, is_group_on, place_after, HasNoGroupCall, IsNext, IsTurn}
+use Rattle.dmr_calls.proofs.Laws.{slot_at-place}
 use Rattle.dmr_core.specs.declared.event.Event.{Event}
 use Rattle.dmr_core.specs.declared.event.Event.TheVariants.{Active, Lost, Say, Tick, Up}
 use Rattle.dmr_core.specs.declared.command.Command.TheVariants.{Move, Stay}
@@ -40,7 +41,7 @@ use Rattle.dmr_core.proofs.ActsAreSafe.{entered, sound_after}
 use Rattle.dmr_core.proofs.LastOpenerLemmas.{call_noted}
 use Rattle.dmr_core.proofs.PlansAreKnown.{plan_known}
 use Rattle.dmr_core.proofs.ChannelLemmas.{channel_known}
-use Rattle.dmr_core.proofs.RoundLemmas.{IsWithin, at_first, between, few_places, nearer, slot_at-place, some_left}
+use Rattle.dmr_core.proofs.RoundLemmas.{IsWithin, at_first, between, few_places, nearer, some_left}
 use Rattle.dmr_core.proofs.ListLemmas.{true_false}
 
 -- the law of dmr_calls about the next talkgroup call
@@ -290,8 +291,8 @@ target_is plan facts call p sound stands group =
       stands = stands;
       group = group;
       small = payload.small;
-      within = omega
-          (arith, payload.small, p.numbers call.slot.carrier payload.known);
+      within =
+          omega (arith, payload.small, p.numbers call.slot.carrier payload.known);
     }
 
 pub named_within : TakeTurns → (plan : Settings) (facts : Facts) (journal : List Entry) (call : Call) → IsPlan plan → IsSound plan facts

@@ -8,6 +8,7 @@ use Rattle.dmr_pdu.specs.declared.pdu.Pdu.{Pdu}
 use Rattle.dmr_plan.specs.declared.settings.Settings.{Settings}
 use Rattle.dmr_calls.specs.Calls.{is_slot}
 use Rattle.dmr_pool.specs.Slots.{box, outboxes_without_carrier, place, outboxes_with_pdu, outboxes_after_send}
+use Rattle.dmr_calls.proofs.Laws.{same_slot}
 use Rattle.dmr_core.specs.declared.event.Event.{Event}
 use Rattle.dmr_core.specs.declared.event.Event.TheVariants.{Up, Lost}
 use Rattle.dmr_core.specs.declared.act.Act.{Act}
@@ -21,7 +22,7 @@ use Rattle.dmr_core.specs.May.{AllMayDo, MayDo, MayQueue}
 use Rattle.dmr_core.specs.Waiting.{queued_by, sent_by, is_turn_of_carrier, since_turn}
 use Rattle.dmr_core.proofs.PlanLemmas.{KnowsPlan}
 use Rattle.dmr_core.proofs.NumberLemmas.{flipped}
-use Rattle.dmr_core.proofs.CallsAreApart.{same_slots, same_slot}
+use Rattle.dmr_core.proofs.CallsAreApart.{same_slots}
 use Rattle.dmr_core.proofs.SlotsStaySound.{other_place, within_boxes}
 use Rattle.dmr_core.proofs.ActsKeepSound.{sound-done}
 use Rattle.dmr_core.proofs.EventsKeepSound.{emptied_box}

@@ -1,4 +1,4 @@
-use Rattle.std.proofs.Common.{arith, ◌≡◌, ◌+◌, ◌≤◌, sum, Fits, ap, List, ℕ}
+use Rattle.std.proofs.Common.{arith, ◌≡◌, sum, ap, List, ℕ}
 use Rattle.dmr_access.specs.Noise.{AreNoiseNumbers, with_noise}
 use Rattle.dmr_access.proofs.NoiseLemmas.{with_noise-are, sum-few}
 use Rattle.dmr_access.proofs.access.Access.noise.Goals as goal

@@ -1,4 +1,4 @@
-use Rattle.std.proofs.Common.{arith, ◌≡◌, ◌+◌, ◌-◌, ◌≤◌, sum, length, ap, List, ℕ}
+use Rattle.std.proofs.Common.{arith, ◌≡◌, sum, length, ap, List, ℕ}
 use Rattle.dmr_access.specs.Noise.{AreNoiseNumbers, with_poll}
 use Rattle.dmr_access.proofs.NoiseLemmas.{with_poll-are}
 use Rattle.dmr_access.proofs.access.Access.polled.Goals as goal

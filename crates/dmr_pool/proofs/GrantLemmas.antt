@@ -219,7 +219,7 @@ module _ (counts : List ℕ) (s : Slot) (i : ℕ) (is : IsSlot s) (at : i ≡ pl
         subst (λ n. 1 ≤ slice_index_or counts n 0) at some,
       )))
 
--- what holds where a slot is the one, if it is this one
+-- what holds of each place whose slot is this one holds of its own place
 pub at_its_place : (P : ℕ → Type 0) (one : Option Slot) (s : Slot) (i : ℕ) → one ≡ Some s → IsSlot s → i ≡ place s
     → ((k : ℕ) → k < 32 → is_this one (slot_at k) ≡ true → P k) → P i
 at_its_place P one s i it is at holds = holds i (omega (arith, is.0, is.1, at))

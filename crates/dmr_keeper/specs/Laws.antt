@@ -16,8 +16,8 @@ use Rattle.dmr_keeper.specs.declared.lines.OpenLine.{OpenLine}
 use Rattle.dmr_keeper.specs.Carried.{Carry}
 
 -- the calls of a site among those that are open
-abbrev pub standing_in : List OpenCall → List ActiveCall
-standing_in calls = map (λ (o : OpenCall). o.standing) calls
+abbrev pub active_in : List OpenCall → List ActiveCall
+active_in calls = map (λ (o : OpenCall). o.active) calls
 
 -- the lines of a site among those with their ticks
 abbrev pub lines_in : List OpenLine → List Line
@@ -25,7 +25,7 @@ lines_in lines = map (λ (l : OpenLine). l.line) lines
 
 -- the open calls, the lines and the registered radios are those of the facts of a site
 pub record IsOfFacts (carry : Carry) (facts : Facts) : Type 0 where
-  pub calls : standing_in carry.calls ≡ facts.calls
+  pub calls : active_in carry.calls ≡ facts.calls
   pub lines : lines_in carry.lines ≡ facts.lines
   pub registered : carry.registered ≡ facts.registered
 
@@ -38,7 +38,7 @@ pub record IsWithinLimits (carry : Carry) : Type 0 where
 -- the age of a call is the ticks since it began, up to 65,535
 pub record HasAge (ticks : ℕ) (o : OpenCall) : Type 0 where
   pub began : o.began ≤ ticks
-  pub age : o.standing.age ≡ min most_ticks (ticks - o.began)
+  pub age : o.active.age ≡ min most_ticks (ticks - o.began)
 
 -- so it is for each of the calls
 abbrev pub HaveAges : ℕ → List OpenCall → Type 0

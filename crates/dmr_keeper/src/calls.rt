@@ -14,7 +14,7 @@ use dmr_pdu::Slot;
 #[derive(Clone, Copy, Debug, PartialEq, Eq)]
 pub struct OpenCall {
     /// The call, with its age and its quiet time as the site counts them.
-    pub standing: ActiveCall,
+    pub active: ActiveCall,
     /// The tick at which it began, counted over all terms.
     pub began: u64,
     /// How many ticks its request waited in line for a slot; 0 if it was given one at once.
@@ -42,7 +42,7 @@ impl OpenCall {
         ensures { result ≡ begun_at tick lines.now call.now }
     {
         OpenCall {
-            standing: ActiveCall {
+            active: ActiveCall {
                 call: *call,
                 age: 0,
                 quiet: 0,
@@ -57,10 +57,10 @@ impl OpenCall {
         ensures { result ≡ one_tick_on self.now }
     {
         OpenCall {
-            standing: ActiveCall {
-                age: self.standing.age.saturating_add(1),
-                quiet: self.standing.quiet.saturating_add(1),
-                ..self.standing
+            active: ActiveCall {
+                age: self.active.age.saturating_add(1),
+                quiet: self.active.quiet.saturating_add(1),
+                ..self.active
             },
             ..*self
         }
@@ -70,11 +70,11 @@ impl OpenCall {
     fn marked(&self, slot: &Slot) -> OpenCall
         ensures { result ≡ with_activity_on slot.now self.now }
     {
-        if self.standing.call.slot == *slot {
+        if self.active.call.slot == *slot {
             OpenCall {
-                standing: ActiveCall {
+                active: ActiveCall {
                     quiet: 0,
-                    ..self.standing
+                    ..self.active
                 },
                 ..*self
             }
@@ -88,11 +88,11 @@ impl OpenCall {
         ensures { result ≡ ended_call_at hang event.now tick self.now }
     {
         EndedCall {
-            call: self.standing.call,
+            call: self.active.call,
             began: self.began,
             ended: tick,
             waited: self.waited,
-            cause: cause_of(hang, event, &self.standing),
+            cause: cause_of(hang, event, &self.active),
         }
     }
 }

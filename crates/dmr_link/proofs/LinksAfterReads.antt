@@ -18,7 +18,7 @@ use Rattle.dmr_link.specs.Peers.{meaning_from, left_from, text_onward, next_onwa
 use Rattle.dmr_link.specs.Sessions.{Going, InputOver, ReadFaulty, WriteFaulty, Session, with_came, with_taken, how_then, with_how, closed_by, kept_of, lost_of, notices_waiting, IsClosed, IsLeftBy, IsQuiet}
 use Rattle.dmr_link.specs.LinkSteps.{closed_as, kept_then, peer_notice_of, closing_then, state_after}
 use Rattle.dmr_link.proofs.ClosingsByOctets.{closes_how, closing_more}
-use Rattle.dmr_link.proofs.TextsGrow.{events_of, text_quiet, next_quiet, text_aside, next_aside, text_nothing, next_nothing, meaning_more, left_more, meaning_end, next_of}
+use Rattle.dmr_link.proofs.TextsGrow.{events_of, text_quiet, next_quiet, text_alone, next_alone, text_nothing, next_nothing, meaning_more, left_more, meaning_end, next_of}
 use Rattle.dmr_link.proofs.LinksAfterSteps.{by_going, session}
 
 -- ---- a piece of unread octets is processed
@@ -46,12 +46,12 @@ peer_only_none (Some (Refused c r)) = refl
 peer_only_none (Some (Rejected fault)) = refl
 
 -- a notice for the peer alone is not kept
-aside_alone : (n : Option Notice) (it : Notice) → peer_notice_of n ≡ Some it → n ≡ Some it
-aside_alone None it is = cc
-aside_alone (Some (Happened e)) it is = cc
-aside_alone (Some (Accepted c version)) it is = cc
-aside_alone (Some (Refused c r)) it is = is
-aside_alone (Some (Rejected fault)) it is = is
+alone_is : (n : Option Notice) (it : Notice) → peer_notice_of n ≡ Some it → n ≡ Some it
+alone_is None it is = cc
+alone_is (Some (Happened e)) it is = cc
+alone_is (Some (Accepted c version)) it is = cc
+alone_is (Some (Refused c r)) it is = is
+alone_is (Some (Rejected fault)) it is = is
 
 kept_none : (n : Option Notice) (it : Notice) → peer_notice_of n ≡ Some it → kept_then None n ≡ None
 kept_none None it is = refl
@@ -65,8 +65,8 @@ next_nowhere : (who : Peer) (next : Option ℕ) (n : Option Notice) → next_onw
 next_nowhere who next None = next_nothing who next
 next_nowhere who next (Some (Happened e)) = next_nothing who next
 next_nowhere who next (Some (Accepted c version)) = next_nothing who next
-next_nowhere who next (Some (Refused c r)) = next_aside who next (Refused c r)
-next_nowhere who next (Some (Rejected fault)) = next_aside who next (Rejected fault)
+next_nowhere who next (Some (Refused c r)) = next_alone who next (Refused c r)
+next_nowhere who next (Some (Rejected fault)) = next_alone who next (Rejected fault)
 
 module _ (l : LinkState) (xs : List ℕ) (it : Option Notice) (rest : List ℕ) (head : l.unread ≡ xs ++ rest) (brings : all_produce l.connection xs ≡ list_of_notice it) (quiet : IsQuiet l) where
   -- the notices that are done, and the one that is kept, after the piece
@@ -142,7 +142,7 @@ module _ (l : LinkState) (xs : List ℕ) (it : Option Notice) (rest : List ℕ) 
         text_to_peer l.who (done ++ n ∷ []) calls ≡ text_to_peer l.who done calls ++ peer_notice_text n
     spelled read done calls next at lost means events =
         text_quiet l.who done (n ∷ []) calls events
-        ∙ ap (λ (t : List ℕ). text_to_peer l.who done calls ++ t) (text_aside l.who (next_onward l.who None done calls) n (next_of l.who (read ++ xs) done [] n (until read done next at lost means)))
+        ∙ ap (λ (t : List ℕ). text_to_peer l.who done calls ++ t) (text_alone l.who (next_onward l.who None done calls) n (next_of l.who (read ++ xs) done [] n (until read done next at lost means)))
 
     reported_all : (came taken : List ℕ) (cut : Bool) (calls : List Deposit) →
         IsLeftBy l (session came taken Going cut calls) → IsLeftBy (state_after l xs it rest) (session came (taken ++ peer_notice_text n) Going cut calls)

@@ -43,7 +43,7 @@ use answers::{
 };
 use dmr_core::{Acts, Entry, Event, Site};
 use dmr_keeper::{
-    Carried, Forget, InMemory, Keeper, Outbox, Recorder, Records, TimedRecords, records_of,
+    Carried, Forget, InMemory, Keeper, RecordQueue, Recorder, Records, TimedRecords, records_of,
 };
 use dmr_pdu::OutOfMemory;
 use shelf::Shelf;
@@ -64,7 +64,7 @@ struct Terms {
     journal: Vec<Entry>,
     last: Records,
     recorder: Recorder,
-    outbox: Outbox,
+    outbox: RecordQueue,
     shelf: Shelf,
     ended: u64,
     lost: usize,
@@ -367,7 +367,7 @@ fn terms_of(alloc: Global, changes: &str) -> Result<Terms, Fail> {
     let Ok(last) = records_of(alloc, &plan, &start, &[]) else {
         return Err("records of no entries".into());
     };
-    let Ok(outbox) = Outbox::new(alloc) else {
+    let Ok(outbox) = RecordQueue::new(alloc) else {
         drop(last);
         return Err("an outbox".into());
     };
@@ -382,7 +382,7 @@ fn terms_of(alloc: Global, changes: &str) -> Result<Terms, Fail> {
 }
 
 /// Returns these, before the first term.
-fn terms_from(alloc: Global, site: Site, last: Records, outbox: Outbox) -> Terms {
+fn terms_from(alloc: Global, site: Site, last: Records, outbox: RecordQueue) -> Terms {
     Terms {
         site,
         journal: Vec::new(alloc),

@@ -46,7 +46,7 @@ pub fn write_ended(said: &mut String, calls: &[EndedCall]) -> Result<(), OutOfMe
 pub fn write_open(said: &mut String, calls: &[OpenCall]) -> Result<(), OutOfMemory> {
     for call in calls {
         write_mark(said)?;
-        write_call(said, "", &call.standing.call)?;
+        write_call(said, "", &call.active.call)?;
         write!(said, " since {}", call.began)?;
     }
     Ok(())

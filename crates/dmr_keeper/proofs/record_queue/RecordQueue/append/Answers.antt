@@ -1,6 +1,6 @@
 use Rattle.std.proofs.Common.{◌≤◌, ◌∷◌, [], ◌++◌, length, sym, subst}
 use Rattle.dmr_keeper.proofs.NewestLemmas.{few_newest, moved_one}
-use Rattle.dmr_keeper.proofs.outbox.Outbox.append.Goals as goal
+use Rattle.dmr_keeper.proofs.record_queue.RecordQueue.append.Goals as goal
 
 pub loop-term-preserved : goal.loop-term-preserved
 loop-term-preserved c = record {

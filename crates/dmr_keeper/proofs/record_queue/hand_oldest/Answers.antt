@@ -1,6 +1,6 @@
 use Rattle.std.proofs.Common.{◌≡◌, Err, refl, rules}
 use Rattle.dmr_keeper.proofs.HandingLemmas.{handed_one, handed_refused, oldest_of, refused_first}
-use Rattle.dmr_keeper.proofs.outbox.hand_oldest.Goals as goal
+use Rattle.dmr_keeper.proofs.record_queue.hand_oldest.Goals as goal
 
 pub returns-clause-handed : goal.returns-clause-handed
 returns-clause-handed g c = handed_one _ _ _ _ _ (oldest_of _ _ _ c.requires c.index.ensures c.remove.ensures.items) c.in_ok-keep.ensures.kept

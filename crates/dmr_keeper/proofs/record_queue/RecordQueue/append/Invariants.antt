@@ -1,6 +1,6 @@
 use Rattle.std.proofs.Common.{◌≡◌, ◌≤◌, ◌++◌, length}
 use Rattle.dmr_keeper.specs.Handing.{newest}
-use Rattle.dmr_keeper.proofs.outbox.Outbox.append.Given as goal
+use Rattle.dmr_keeper.proofs.record_queue.RecordQueue.append.Given as goal
 
 abbrev pub invariant-loop-term : goal.invariant-loop-term
 invariant-loop-term l = record {

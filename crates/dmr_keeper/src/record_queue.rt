@@ -18,19 +18,19 @@ pub const MOST_WAITING: usize = 1_000;
 ///
 /// The records of at most [`MOST_WAITING`] terms wait. Room for them is allocated at the beginning.
 #[derive(Drop)]
-pub struct Outbox {
+pub struct RecordQueue {
     terms: Vec<TimedRecords>,
 }
 
-impl Model for Outbox {
+impl Model for RecordQueue {
     ghost use Rattle.std.specs.Prelude.{◌≤◌, List, length, vec_capacity};
     ghost use Rattle.dmr_keeper.specs.declared.time.TimedRecords.{TimedRecords as TermRecords};
 
     ghost Value = { List TermRecords };
 
-    ghost view = { λ outbox. outbox.terms.items };
+    ghost view = { λ record_queue. record_queue.terms.items };
 
-    ghost invariant = { λ outbox. (1000 ≤ vec_capacity outbox.terms) × (length outbox.terms.items ≤ 1000) };
+    ghost invariant = { λ record_queue. (1000 ≤ vec_capacity record_queue.terms) × (length record_queue.terms.items ≤ 1000) };
 }
 
 /// Hands the oldest records to a keeper, and removes them if it kept them. There are some.
@@ -66,12 +66,12 @@ fn hand_all<K: Keeper>(terms: &mut Vec<TimedRecords>, keeper: &mut K) -> Result<
     Ok(())
 }
 
-impl Outbox {
+impl RecordQueue {
     /// Makes an outbox in which nothing waits. Returns `OutOfMemory` if the allocation is refused.
-    pub fn new(alloc: Global) -> Result<Outbox, OutOfMemory>
-        ensures { IfOk result (λ outbox. outbox ≡ []) }
+    pub fn new(alloc: Global) -> Result<RecordQueue, OutOfMemory>
+        ensures { IfOk result (λ record_queue. record_queue ≡ []) }
     {
-        Ok(Outbox {
+        Ok(RecordQueue {
             terms: Vec::with_capacity(alloc, MOST_WAITING)?,
         })
     }
@@ -119,7 +119,7 @@ impl Outbox {
 
     /// Moves all records of another outbox here, after these. If there is no room for all, the oldest are lost for the
     /// store, and it returns for how many terms. It allocates nothing.
-    pub fn append(&mut self, later: &mut Outbox) -> usize
+    pub fn append(&mut self, later: &mut RecordQueue) -> usize
         ensures moved { self.new ≡ newest (self.old ++ later.old) }
         ensures none { later.new ≡ [] }
         ensures lost { result ≡ length self.old + length later.old - MOST_WAITING }

@@ -1,6 +1,6 @@
 use Rattle.std.proofs.Common.{◌≡◌, Err, ◌∙◌, arith, refl, rules}
 use Rattle.dmr_keeper.proofs.HandingLemmas.{handed_none, handed_on, refused_on}
-use Rattle.dmr_keeper.proofs.outbox.hand_all.Goals as goal
+use Rattle.dmr_keeper.proofs.record_queue.hand_all.Goals as goal
 
 pub loop-terms-init : goal.loop-terms-init
 loop-terms-init g c = record { handed = handed_none _ _; fewer = omega arith; room = refl }

@@ -1,7 +1,7 @@
 use Rattle.std.proofs.Common.{◌≡◌, ◌≤◌, length}
 use Rattle.std.specs.Prelude.{vec_capacity}
 use Rattle.dmr_keeper.specs.Handing.{AreHandedOver}
-use Rattle.dmr_keeper.proofs.outbox.hand_all.Given as goal
+use Rattle.dmr_keeper.proofs.record_queue.hand_all.Given as goal
 
 abbrev pub invariant-loop-terms : goal.invariant-loop-terms
 invariant-loop-terms g l = record {

@@ -2,8 +2,8 @@ use Rattle.std.proofs.Common.{◌≡◌, ◌<◌, ◌≤◌, List, length, sym, 
 use Rattle.dmr_keeper.specs.declared.time.TimedRecords.{TimedRecords}
 use Rattle.dmr_keeper.proofs.HandingLemmas.{oldest_of}
 use Rattle.dmr_keeper.proofs.NewestLemmas.{added_within, added_instead}
-use Rattle.dmr_keeper.proofs.outbox.Outbox.add.Goals as goal
-use Rattle.dmr_keeper.proofs.outbox.Outbox.add.Goals.{then-len-eq-MOST_WAITING, else-len-eq-MOST_WAITING}
+use Rattle.dmr_keeper.proofs.record_queue.RecordQueue.add.Goals as goal
+use Rattle.dmr_keeper.proofs.record_queue.RecordQueue.add.Goals.{then-len-eq-MOST_WAITING, else-len-eq-MOST_WAITING}
 
 pub returns-clause-added : goal.returns-clause-added
 returns-clause-added c =

@@ -13,7 +13,6 @@
 #define SITE_H
 
 #include "coder.h"
-#include "rows.h"
 #include <stdlib.h>
 
 enum {
@@ -42,26 +41,6 @@ enum {
     PV_GRANT = 0xB0,
     TV_GRANT = 0xB1,
     C_MOVE = 0xB9
-};
-
-/* The reasons of an acknowledgement. */
-enum {
-    NOT_SUPPORTED = 0x20,
-    PERM_USER_REFUSED = 0x21,
-    TRANSIENT_SYS_REFUSED = 0x23,
-    NOREG_MS_AWAY = 0x24,
-    SYSBUSY_REFUSED = 0x27,
-    CALL_CANCEL_REFUSED = 0x29,
-    REG_REFUSED = 0x2A,
-    REG_DENIED = 0x2B,
-    MS_NOT_REGISTERED = 0x2D,
-    CALLED_PARTY_BUSY = 0x2E,
-    GROUP_NOT_ALLOWED = 0x2F,
-    MS_ACCEPTED = 0x44,
-    MESSAGE_ACCEPTED = 0x60,
-    REG_ACCEPTED = 0x62,
-    QUEUED_FOR_RESOURCE = 0xA0,
-    WAIT = 0xE0
 };
 
 /* The kinds of a request. */

@@ -5,7 +5,84 @@
 #ifndef SITE_MACHINE_H
 #define SITE_MACHINE_H
 
+/* ---- the rows of the document's tables, in its words, with which python/tests/test_reference.py compares them */
+
+/* "A request (C_RAND), the first row that applies" */
+#define REQUEST_ROWS(ROW) \
+    ROW(REQUEST_UNKNOWN, "flags not 0, or a kind other than registration (14), talkgroup voice (1), individual voice (0), cancel (15)") \
+    ROW(REQUEST_LEAVES, "registration, leaving (the plan names an option bit, and it is 0)") \
+    ROW(REQUEST_DENIED, "registration, the source is in no range of radios") \
+    ROW(REQUEST_AGAIN, "registration, the source is registered") \
+    ROW(REQUEST_TOO_MANY, "registration, 4,096 radios are registered") \
+    ROW(REQUEST_JOINS, "registration") \
+    ROW(REQUEST_STRANGER, "the source is not registered") \
+    ROW(REQUEST_CANCELS_ASK, "cancel, the source has an ask") \
+    ROW(REQUEST_CANCELS_LINE, "cancel, the source has a line") \
+    ROW(REQUEST_CANCELS_NOTHING, "cancel") \
+    ROW(REQUEST_TALKGROUP, "talkgroup voice") \
+    ROW(REQUEST_INDIVIDUAL, "individual voice")
+
+/* "Close(r)" */
+#define CLOSE_ROWS(ROW) \
+    ROW(CLOSE_CALL, "the source of a call, or the target of an individual one") \
+    ROW(CLOSE_OWN_ASK, "the source of an ask") \
+    ROW(CLOSE_ASK, "the target of an ask") \
+    ROW(CLOSE_OWN_LINE, "the source of a line") \
+    ROW(CLOSE_LINE, "the target of an individual line")
+
+/* "A talkgroup request, the first row that applies" */
+#define TALKGROUP_ROWS(ROW) \
+    ROW(TALKGROUP_UNLISTED, "the talkgroup is not listed") \
+    ROW(TALKGROUP_CALLED, "the source has a call to it") \
+    ROW(TALKGROUP_LINED, "the source has a line to it") \
+    ROW(TALKGROUP_ENGAGED, "the source is engaged otherwise") \
+    ROW(TALKGROUP_LATE, "there is a call to the talkgroup") \
+    ROW(TALKGROUP_WAITS, "there is a line to the talkgroup") \
+    ROW(TALKGROUP_BEGINS, "there is no line, and a slot is free") \
+    ROW(TALKGROUP_LINES, "there are fewer than 32 lines") \
+    ROW(TALKGROUP_BUSY, "else")
+
+/* "An individual request, the first row that applies" */
+#define INDIVIDUAL_ROWS(ROW) \
+    ROW(INDIVIDUAL_NEVER, "the target is the source, or is in no range of radios") \
+    ROW(INDIVIDUAL_CALLED, "the source has an individual call to it") \
+    ROW(INDIVIDUAL_ASKED, "the source has an ask to it") \
+    ROW(INDIVIDUAL_LINED, "the source has an individual line to it") \
+    ROW(INDIVIDUAL_ENGAGED, "the source is engaged otherwise") \
+    ROW(INDIVIDUAL_AWAY, "the target is not registered") \
+    ROW(INDIVIDUAL_TAKEN, "the target is engaged") \
+    ROW(INDIVIDUAL_ASKS, "there are fewer than 32 asks") \
+    ROW(INDIVIDUAL_BUSY, "else")
+
+/* "The called radio's answer (C_ACKU whose additional address is the target of an ask)" */
+#define ANSWER_ROWS(ROW) \
+    ROW(ANSWER_BEGINS, "the reason is MS_Accepted, there is no line, and a slot is free") \
+    ROW(ANSWER_LINES, "the reason is MS_Accepted, and there are fewer than 32 lines") \
+    ROW(ANSWER_BUSY, "the reason is MS_Accepted") \
+    ROW(ANSWER_REFUSED, "another reason")
+
+#include "rows.h"
 #include "site_lists.h"
+
+/* The reasons of an acknowledgement. */
+enum {
+    NOT_SUPPORTED = 0x20,
+    PERM_USER_REFUSED = 0x21,
+    TRANSIENT_SYS_REFUSED = 0x23,
+    NOREG_MS_AWAY = 0x24,
+    SYSBUSY_REFUSED = 0x27,
+    CALL_CANCEL_REFUSED = 0x29,
+    REG_REFUSED = 0x2A,
+    REG_DENIED = 0x2B,
+    MS_NOT_REGISTERED = 0x2D,
+    CALLED_PARTY_BUSY = 0x2E,
+    GROUP_NOT_ALLOWED = 0x2F,
+    MS_ACCEPTED = 0x44,
+    MESSAGE_ACCEPTED = 0x60,
+    REG_ACCEPTED = 0x62,
+    QUEUED_FOR_RESOURCE = 0xA0,
+    WAIT = 0xE0
+};
 
 /* ---- what is received on the control slot */
 

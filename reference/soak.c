@@ -3,10 +3,10 @@
  * The command `reference/soak` runs it, and compares.
  *
  *     soak SCENE VERSION INPUTS SEED FOLDER         writes site.toml, script and printed to a folder, and prints how often each
- *                                                   row of rows.h was reached
+ *                                                   row was reached
  *     soak SCENE VERSION INPUTS SEED --find P AT    prints the input, by its line in the script, that puts out octet AT of party P:
  *                                                   a carrier, or 16 for the operators
- *     soak --rows                                   prints the rows of rows.h
+ *     soak --rows                                   prints the rows
  *
  * SCENE is two or sixteen, VERSION the greatest version of the link that the site serves.
  */

@@ -12,7 +12,7 @@ import stat
 import tempfile
 import time
 from collections.abc import Iterator, Sequence
-from dataclasses import dataclass, field
+from dataclasses import dataclass, field, fields
 from typing import Any
 
 from temzaar.faults import MOST_OCTETS, ToolFault, reason_of
@@ -20,9 +20,9 @@ from temzaar.moments import Span
 
 # The path of the file, if the systemd unit of the controller runs.
 DEFAULT_PATH = "/var/lib/dmr_trunk/site.db"
-# The greatest version of the tables that this module reads, and the first one that says how long calls waited, and who joined them.
+# The greatest version of the tables that this module reads, and the columns that later versions than the first added.
 VERSION = 2
-WITH_WAITS = 2
+ADDED_IN = {"waited": 2}
 # What every database of SQLite begins with, and the ending of its log's name.
 MAGIC, LOG = b"SQLite format 3\0", "-wal"
 # The octets of a database that SQLite locks: one that a writer takes first, and those that readers share.
@@ -132,8 +132,7 @@ class RecordedTerm:
 # The columns of `terms` that count something, and those of the other tables.
 COUNTS = ("entries", "heard", "requests", "noise", "active", "polls", "ticks", "commands", "grants", "late_entries", "registrations", "refusals", "begun", "ended", "most_lines")
 OF_TERMS = ("number", "ended_ms", "tick_ms", "last_tick", *COUNTS)
-OF_CALLS = ("number", "term", "carrier", "slot", "is_group", "source", "target", "cause", "began", "ended", "began_ms", "ended_ms")
-OF_EVENTS = ("number", "term", "kind", "carrier", "slot", "radio", "target", "channel", "reason", "reply", "tick", "at_ms")
+OF_CALLS, OF_EVENTS = (tuple(it.name for it in fields(row)) for row in (RecordedCall, RecordedEvent))
 
 
 class Records:
@@ -150,7 +149,8 @@ class Records:
     def calls(self, where: Where = ("1", []), last: int | None = None) -> list[RecordedCall]:
         """Calls that meet a condition, in the order in which they ended; the last ones, if `last` says how many."""
         order = "number" if last is None else f"number DESC LIMIT {last}"
-        columns = *OF_CALLS, "waited" if self.version() >= WITH_WAITS else "NULL"
+        version = self.version()
+        columns = [name if ADDED_IN.get(name, 1) <= version else "NULL" for name in OF_CALLS]
         rows = [RecordedCall(*row[:4], bool(row[4]), *row[5:]) for row in self._rows("calls", columns, where, order)]
         return rows if last is None else rows[::-1]
 

@@ -21,6 +21,7 @@ from tests.made_records import (
     opened, zone,
 )
 from tests.support import TOP, FolderCase, call_tool, run_tool
+from tests.test_records import statements_of_tables
 
 HOUR = 3_600_000
 # 2026-11-01 00:00:00 UTC, 26 days and a half before NOON. In Berlin it is 01:00, and summer time
@@ -193,11 +194,9 @@ class Months(ArchiveCase):
 
     def test_the_controllers_tables(self) -> None:
         """Tables as the controller makes them: columns in another order, and one with one row."""
-        source = (TOP / "crates/dmr_records/src/tables.rt").read_text(encoding="utf-8")
-        text = source[source.index("CREATE TABLE schema_version"):source.index('";\n', source.index("removed"))]
         real = self.top / "real.db"
         with opened(real) as conn:
-            conn.executescript(text.replace("\\\n", ""))
+            conn.executescript(statements_of_tables())
             conn.execute("ATTACH ? AS made", [str(self.path)])
             for table in TIMES:
                 # those of the made tables, which are of version 1

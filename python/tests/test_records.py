@@ -58,8 +58,8 @@ ANSWERS: tuple[list[Columns], ...] = (
 
 def statements_of(name: str) -> str:
     """The statements of a constant in the crate's source, as the compiler reads it."""
-    source = (TOP / "crates/dmr_records/src/tables.rt").read_text(encoding="utf-8")
-    found = re.search(rf'^const {name}: &str = "(.*?)";$', source, re.M | re.S)
+    source = (TOP / "crates/dmr_records/src/rows.rt").read_text(encoding="utf-8")
+    found = re.search(rf'^pub const {name}: &str = "(.*?)";$', source, re.M | re.S)
     assert found
     return re.sub(r"\\\n *", "", found[1])
 
@@ -231,7 +231,7 @@ class Written(FolderCase):
         self.assertEqual((new.terms, new.last and new.last.number), (7, 7))
         sums = self.conn.execute(f"SELECT {', '.join(f'sum({it})' for it in SUMMED)} FROM terms")
         self.assertEqual(tuple(new.sums.values()), sums.fetchone())
-        kinds = [("group" if row[4] else "radio", row[-2])
+        kinds = [("group" if row[4] else "radio", row[11])
                  for row in self.session.call_rows(self.ended_ms)]
         self.assertEqual(new.calls, Counter(kinds))
         self.assertEqual(sum(new.refusals.values()), 2)

@@ -20,7 +20,7 @@ from plans import plan_of  # noqa: E402  (the path comes first)
 soak, wrong_rules = load_command("reference/soak"), load_command("reference/wrong-rules")
 CC = ["cc", "-std=c99", "-pedantic", "-Wall", "-Wextra", "-Werror"]
 FAST, SANITIZERS = ["-O1"], ["-O0", "-g", "-fsanitize=address,undefined", "-fno-sanitize-recover=all"]
-# The tables of rules in docs/SITE_MACHINE.md, in the order of rows.h: the heading, or the line, that each comes after.
+# The tables of rules in docs/SITE_MACHINE.md, in the order of site_machine.h: the heading, or the line, that each comes after.
 TABLES = ("### A request (C_RAND)", "**Close(r)**", "### A talkgroup request", "### An individual request", "### The called radio's answer")
 
 

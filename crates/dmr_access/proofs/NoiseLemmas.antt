@@ -1,5 +1,6 @@
 -- The noise numbers after a Noise and after a Poll, and their sum.
-use Rattle.std.proofs.Common.{◌≡◌, ℕ, ◌+◌, ◌-◌, ◌*◌, ◌≤◌, ◌<◌, min, List, [], ◌∷◌, Option, Some, None, length, take, sum, get_or, refl, sym, ap, ◌∙◌, arith, inr}
+use Rattle.std.proofs.Common.{◌≡◌, ℕ, ◌+◌, ◌-◌, ◌*◌, ◌≤◌, ◌<◌, min, List, [], ◌∷◌, Option, Some, None, length, take, sum, get_or, refl, sym}
+use Rattle.std.proofs.Common.{ap, ◌∙◌, arith, inr}
 use Rattle.std.specs.Prelude.{slice_get}
 use Rattle.std.specs.List.{All}
 use Rattle.std.proofs.lemmas.List.{length-take-le, take_all}
@@ -9,7 +10,8 @@ use Rattle.std.proofs.lemmas.Option.{get_or_from_slice_get, slice_get-get_or}
 use Rattle.dmr_access.specs.Noise.{AreNoiseNumbers, with_noise, with_poll}
 
 -- one more Noise
-pub sum-with_noise : (noise : List ℕ) (before : ℕ) → slice_get noise 0 ≡ Some before → before ≤ 15 → sum (with_noise noise) ≡ sum noise + (min 15 (before + 1) - before)
+pub sum-with_noise : (noise : List ℕ) (before : ℕ) → slice_get noise 0 ≡ Some before → before ≤ 15
+    → sum (with_noise noise) ≡ sum noise + (min 15 (before + 1) - before)
 sum-with_noise [] before is small = cc
 sum-with_noise (n ∷ ns) before is small =
     let same : n ≡ before = cc in
@@ -21,12 +23,15 @@ with_poll-is [] all = absurd (omega (arith, all))
 with_poll-is (n ∷ ns) all = refl
 
 -- without the oldest number
-pub sum-with_poll : (noise : List ℕ) (oldest : ℕ) → length noise ≡ 32 → slice_get (0 ∷ noise) 32 ≡ Some oldest → sum (with_poll noise) + oldest ≡ sum noise
+pub sum-with_poll : (noise : List ℕ) (oldest : ℕ) → length noise ≡ 32 → slice_get (0 ∷ noise) 32 ≡ Some oldest
+    → sum (with_poll noise) + oldest ≡ sum noise
 sum-with_poll noise oldest all is =
     let at : get_or noise 31 0 ≡ oldest = get_or_from_slice_get noise 31 oldest 0 is in
-    let more : sum (take (31 + 1) noise) ≡ sum (take 31 noise) + get_or noise 31 0 = sum_by_more (λ (x : ℕ). x) noise 31 0 (omega (arith, all)) in
+    let more : sum (take (31 + 1) noise) ≡ sum (take 31 noise) + get_or noise 31 0 =
+    sum_by_more (λ (x : ℕ). x) noise 31 0 (omega (arith, all)) in
     let whole : take (31 + 1) noise ≡ noise = take_all 32 noise (omega (arith, all)) in
-    let polled : sum (with_poll noise) ≡ 0 + sum (take 31 noise) = ap (λ (xs : List ℕ). sum xs) (sym (with_poll-is noise all)) ∙ sum_by-cons (λ (x : ℕ). x) 0 (take 31 noise) in
+    let polled : sum (with_poll noise) ≡ 0 + sum (take 31 noise) = ap (λ (xs : List ℕ). sum xs) (sym (with_poll-is noise all))
+    ∙ sum_by-cons (λ (x : ℕ). x) 0 (take 31 noise) in
     omega (arith, polled, more, at, ap (λ (xs : List ℕ). sum xs) whole)
 
 -- there is an oldest number

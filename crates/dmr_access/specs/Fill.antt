@@ -3,25 +3,40 @@ use Rattle.std.specs.Prelude.{ℕ, ◌+◌, ◌-◌, ◌%◌, List, Bool, ◌==�
 use Rattle.std.specs.Prelude.{unwrap_or, if◌then◌else◌}
 use Rattle.dmr_pdu.specs.declared.pdu.Pdu.{Pdu}
 use Rattle.dmr_pdu.specs.declared.pdu.Pdu.TheVariants.{Aloha, Move}
+use Rattle.dmr_plan.specs.declared.sections.SystemSection.{SystemSection}
+use Rattle.dmr_plan.specs.declared.sections.AlohaSection.{AlohaSection}
+use Rattle.dmr_plan.specs.declared.sections.CallSection.{CallSection}
 use Rattle.dmr_plan.specs.declared.settings.Settings.{Settings}
 use Rattle.dmr_access.specs.Limits.{late_entry_interval}
 use Rattle.dmr_access.specs.Noise.{backoff_of}
 
--- the plan, the noise numbers, and the Fills since the control carrier came up, modulo 4
+-- the sections of the plan that it reads, the noise numbers, and the Fills since the control carrier came up, modulo 4
 pub record Window : Type 0 where
-  pub plan : Settings
+  pub system : SystemSection
+  pub aloha : AlohaSection
+  pub calls : CallSection
   pub noise : List ℕ
   pub fills : ℕ
 
+-- random access by a plan, with these noise numbers and Fills
+abbrev pub window_of : Settings → List ℕ → ℕ → Window
+window_of plan noise fills = record {
+  system = plan.system;
+  aloha = plan.aloha;
+  calls = plan.calls;
+  noise = noise;
+  fills = fills;
+}
+
 -- C_ALOHA to all radios (mask 0) for all services (function 0), which must register, with the backoff of the noise
-abbrev pub aloha_pdu : Settings → List ℕ → Pdu
-aloha_pdu plan noise =
-    Aloha plan.aloha_sync plan.aloha_version plan.aloha_offset plan.aloha_active 0 0 plan.nrand_wait
-    true (backoff_of plan noise) plan.system 0
+abbrev pub aloha_pdu : Window → Pdu
+aloha_pdu w =
+    Aloha w.aloha.sync w.aloha.version w.aloha.offset w.aloha.active 0 0 w.aloha.nrand_wait true
+    (backoff_of w.calls w.noise) w.system.system 0
 
 -- C_MOVE to a channel on which radios must register, with the same backoff
-abbrev pub move_to : Settings → List ℕ → ℕ → Pdu
-move_to plan noise lpcn = Move true (backoff_of plan noise) lpcn
+abbrev pub move_to : Window → ℕ → Pdu
+move_to w lpcn = Move true (backoff_of w.calls w.noise) lpcn
 
 -- the count after one more Fill, modulo 4
 abbrev pub next_fill_count : ℕ → ℕ
@@ -33,7 +48,6 @@ is_late_due fills = fills == (late_entry_interval - 1)
 
 -- the Fill of the control slot, the first that applies: C_MOVE if there is a move, the late entry if one is due and
 -- there is one, C_ALOHA
-abbrev pub fill_of : Settings → Option ℕ → List ℕ → ℕ → Option Pdu → Pdu
-fill_of plan (Some lpcn) noise fills late = move_to plan noise lpcn
-fill_of plan None noise fills late =
-    if is_late_due fills then unwrap_or late (aloha_pdu plan noise) else aloha_pdu plan noise
+abbrev pub fill_of : Window → Option ℕ → Option Pdu → Pdu
+fill_of w (Some lpcn) late = move_to w lpcn
+fill_of w None late = if is_late_due w.fills then unwrap_or late (aloha_pdu w) else aloha_pdu w

@@ -4,7 +4,7 @@
 use Rattle.std.specs.Prelude.{ℕ, ◌+◌, ◌-◌, min, List, [], ◌∷◌, take, replicate, sum, ◌≡◌, ◌≤◌, ◌⊎◌}
 use Rattle.std.specs.Prelude.{length}
 use Rattle.std.specs.List.{All}
-use Rattle.dmr_plan.specs.declared.settings.Settings.{Settings}
+use Rattle.dmr_plan.specs.declared.sections.CallSection.{CallSection}
 use Rattle.dmr_access.specs.Limits.{polls_of_window, most_noises}
 
 -- none, or 32 numbers of 0 to 15
@@ -27,5 +27,5 @@ with_poll [] = []
 with_poll (n ∷ ns) = 0 ∷ take (polls_of_window - 1) (n ∷ ns)
 
 -- the backoff that is sent: the plan's lowest plus one for each Noise that counts, up to the plan's highest
-abbrev pub backoff_of : Settings → List ℕ → ℕ
-backoff_of plan noise = min plan.backoff_high (plan.backoff_low + sum noise)
+abbrev pub backoff_of : CallSection → List ℕ → ℕ
+backoff_of calls noise = min calls.backoff_high (calls.backoff_low + sum noise)

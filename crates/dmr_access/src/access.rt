@@ -7,10 +7,12 @@ ghost use Rattle.circular_buffer.specs.Buffer.{buffer};
 ghost use Rattle.dmr_access.specs.Noise.{AreNoiseNumbers, noise_at_up, with_noise, with_poll};
 ghost use Rattle.dmr_access.specs.Noise.{backoff_of};
 ghost use Rattle.dmr_access.specs.Fill.{aloha_pdu, fill_of, is_late_due, move_to, next_fill_count};
+ghost use Rattle.dmr_access.specs.Fill.{window_of};
+ghost use Rattle.dmr_access.specs.Same.{are_alike, are_same};
 
 use circular_buffer::HeapCircularBuffer;
 use dmr_pdu::{Address, Lpcn, Number, OutOfMemory, Pdu};
-use dmr_plan::Plan;
+use dmr_plan::{AlohaSection, CallSection, Plan, SystemSection};
 use std::alloc::Global;
 use std::marker::Model;
 
@@ -25,12 +27,15 @@ const MUST_REGISTER: bool = true;
 
 /// Random access by a plan: the noise on the control slot, and the Fills.
 ///
-/// Contracts see the plan, the noise numbers and the Fills. The first noise number counts the Noises since the control
-/// carrier's last Poll, the next those between that Poll and the one before, and so on. There are 32, each 0 to 15, and
-/// none while the control carrier is down. The Fills are those since the control carrier last came up, modulo 4.
+/// Contracts see the sections of the plan that it reads, the noise numbers and the Fills. The first noise number counts
+/// the Noises since the control carrier's last Poll, the next those between that Poll and the one before, and so on.
+/// There are 32, each 0 to 15, and none while the control carrier is down. The Fills are those since the control
+/// carrier last came up, modulo 4.
 #[derive(Drop)]
 pub struct Access {
-    plan: Plan,
+    system: SystemSection,
+    aloha: AlohaSection,
+    calls: CallSection,
     noise: HeapCircularBuffer<u8>,
     // The sum of the noise numbers. Each Fill needs it, so it is kept and not added up.
     noises: u16,
@@ -39,19 +44,23 @@ pub struct Access {
 
 impl Model for Access {
     ghost use Rattle.std.specs.Prelude.{◌≡◌, ◌<◌, sum};
+    ghost use Rattle.dmr_plan.specs.Sections.{IsCallSection};
     ghost use Rattle.dmr_access.specs.Fill.{Window};
     ghost use Rattle.dmr_access.specs.Noise.{AreNoiseNumbers};
 
     ghost Value = { Window };
 
     ghost view = { λ access. record {
-      plan = access.plan;
+      system = access.system;
+      aloha = access.aloha;
+      calls = access.calls;
       noise = access.noise.items;
       fills = access.fills;
     } };
 
     ghost invariant = { λ access. (access.noise.capacity ≡ 32) × AreNoiseNumbers access.noise.items
-        × (access.fills < 4) × (access.noises ≡ sum access.noise.items) };
+        × (access.fills < 4) × (access.noises ≡ sum access.noise.items)
+        × IsCallSection access.calls };
 }
 
 /// Counts a Noise in the first of the noise numbers, which stays at 15. Returns how many more Noises count after that:
@@ -117,11 +126,13 @@ impl Access {
     /// Makes the random access of a plan, with the control carrier down. Returns `OutOfMemory` if its memory cannot be
     /// allocated.
     pub fn new(alloc: Global, plan: &Plan) -> Result<Access, OutOfMemory>
-        ensures { IfOk result
-            (λ access. access ≡ record { plan = plan.now; noise = []; fills = 0 }) }
+        ensures { IfOk result (λ access. access ≡ window_of plan.now [] 0) }
     {
+        let settings = plan.settings();
         Ok(Access {
-            plan: *plan,
+            system: settings.system,
+            aloha: settings.aloha,
+            calls: settings.calls,
             noise: HeapCircularBuffer::with_capacity(alloc, POLLS)?,
             noises: 0,
             fills: 0,
@@ -137,7 +148,9 @@ impl Access {
         noise.extend_from_slice(newer);
         noise.extend_from_slice(older);
         Ok(Access {
-            plan: self.plan,
+            system: self.system,
+            aloha: self.aloha,
+            calls: self.calls,
             noise,
             noises: self.noises,
             fills: self.fills,
@@ -174,7 +187,7 @@ impl Access {
     /// Begins again when the control carrier comes up: all noise numbers are 0, and there was no Fill.
     #[tactic(auto, unfolding(crate::specs::Noise::noise_at_up))]
     pub fn reset(&mut self)
-        ensures { self.new ≡ record { plan = self.old.plan; noise = noise_at_up; fills = 0 } }
+        ensures { self.new ≡ record self.old { noise = noise_at_up; fills = 0 } }
     {
         self.stop();
         self.noise.extend_from_slice(&[0; POLLS]);
@@ -182,7 +195,7 @@ impl Access {
 
     /// Stops when the control carrier is down: there are no noise numbers, and there was no Fill.
     pub fn stop(&mut self)
-        ensures { self.new ≡ record { plan = self.old.plan; noise = []; fills = 0 } }
+        ensures { self.new ≡ record self.old { noise = []; fills = 0 } }
     {
         self.noise.clear();
         self.noises = 0;
@@ -192,12 +205,11 @@ impl Access {
     /// The backoff to send, 1 to 15: the plan's lowest plus the number of Noises that count, but at most the plan's
     /// highest.
     pub fn backoff(&self) -> u8
-        ensures value { result ≡ backoff_of self.now.plan self.now.noise }
+        ensures value { result ≡ backoff_of self.now.calls self.now.noise }
         ensures range { (1 ≤ result) × (result ≤ 15) }
     {
-        self.plan.use_invariant();
-        let raised = u32::from(self.plan.backoff_low()) + u32::from(self.noises);
-        raised.min(u32::from(self.plan.backoff_high())) as u8
+        let raised = u32::from(self.calls.backoff_low) + u32::from(self.noises);
+        raised.min(u32::from(self.calls.backoff_high)) as u8
     }
 
     /// Reports whether a late entry is due in the next Fill: in the fourth since the control carrier came up, the
@@ -213,7 +225,7 @@ impl Access {
     ///
     /// See TS 102 361-4, clause 7.1.1. The layouts of C_MOVE and C_ALOHA are this project's profile.
     pub fn next_fill(&self, moving: Option<Lpcn>, late: Option<Pdu>) -> Pdu
-        ensures { result ≡ fill_of self.now.plan moving self.now.noise self.now.fills late }
+        ensures { result ≡ fill_of self.now moving late }
     {
         match (moving, late) {
             (Some(lpcn), _) => self.move_to(lpcn),
@@ -231,7 +243,7 @@ impl Access {
 
     /// Fills the control slot: returns the next Fill, and counts it.
     pub fn fill(&mut self, moving: Option<Lpcn>, late: Option<Pdu>) -> Pdu
-        ensures pdu { result ≡ fill_of self.old.plan moving self.old.noise self.old.fills late }
+        ensures pdu { result ≡ fill_of self.old moving late }
         ensures counted { self.new ≡ record self.old { fills = next_fill_count self.old.fills } }
     {
         let pdu = self.next_fill(moving, late);
@@ -242,26 +254,26 @@ impl Access {
     /// C_ALOHA with the plan's fields and the backoff. It invites all radios (mask and address 0), for all services
     /// (function 0), and they must register.
     fn aloha(&self) -> Pdu
-        ensures { result ≡ aloha_pdu self.now.plan self.now.noise }
+        ensures { result ≡ aloha_pdu self.now }
     {
         Pdu::Aloha {
-            sync: self.plan.aloha_sync(),
-            version: self.plan.aloha_version(),
-            offset: self.plan.aloha_offset(),
-            active: self.plan.aloha_active(),
+            sync: self.aloha.sync,
+            version: self.aloha.version,
+            offset: self.aloha.offset,
+            active: self.aloha.active,
             mask: Number::new(0),
             function: Number::new(0),
-            nrand_wait: self.plan.nrand_wait(),
+            nrand_wait: self.aloha.nrand_wait,
             register: MUST_REGISTER,
             backoff: Number::new(u32::from(self.backoff())),
-            system: self.plan.system(),
+            system: self.system.system,
             address: Address::new(0),
         }
     }
 
     /// C_MOVE to a channel, with the backoff. Radios must register there.
     fn move_to(&self, lpcn: Lpcn) -> Pdu
-        ensures { result ≡ move_to self.now.plan self.now.noise lpcn }
+        ensures { result ≡ move_to self.now lpcn }
     {
         Pdu::Move {
             register: MUST_REGISTER,
@@ -269,9 +281,26 @@ impl Access {
             lpcn,
         }
     }
+
+    /// Reports whether two values have the same sections, noise numbers and counts of Fills.
+    fn equals(&self, other: &Access) -> bool
+        ensures { result ≡ are_same self.now other.now }
+    {
+        self.system == other.system
+            && self.aloha == other.aloha
+            && self.calls == other.calls
+            && self.has_same_noise_and_fills(other)
+    }
+
+    /// Reports whether two values have the same noise numbers and counts of Fills. Their sections are not compared.
+    pub fn has_same_noise_and_fills(&self, other: &Access) -> bool
+        ensures { result ≡ are_alike self.now other.now }
+    {
+        same_numbers(&self.noise, &other.noise) && self.fills == other.fills
+    }
 }
 
-/// Two values are equal if their plans, noise numbers and counts of Fills are the same.
+/// Two values are equal if their sections of a plan, noise numbers and counts of Fills are the same.
 impl PartialEq for Access {
     ghost use Rattle.std.specs.Cmp.{partial_equiv_from_equiv};
     ghost use Rattle.dmr_access.specs.Same.{are_same, are_same-equivalence};
@@ -284,9 +313,7 @@ impl PartialEq for Access {
         ensures gives { result ≡ are_same self.now other.now }
         ensures same { IsTrue result ↔ (self.now ≡ other.now) }
     {
-        self.plan == other.plan
-            && same_numbers(&self.noise, &other.noise)
-            && self.fills == other.fills
+        self.equals(other)
     }
 }
 

@@ -4,11 +4,12 @@ use Rattle.std.proofs.Math.Nat.{mod-eq_of_lt}
 use Rattle.std.proofs.lemmas.Bool.{lt-ltb, le-ltb, cases_lt}
 use Rattle.std.proofs.lemmas.Nat.{and_mask, one_shl, shr_high, mod_low, shl_whole}
 use Rattle.dmr_bits.specs.Bits.{octet_bit, bits_value}
-use Rattle.dmr_bits.proofs.BitLemmas.{bits_value-of_number, bits_value-lt, bits_value-add, bits_value-same, bits_value-bit, bits_value-field}
+use Rattle.dmr_bits.proofs.BitLemmas.{bits_value-of_number, bits_value-below_number, bits_value-lt, bits_value-add, bits_value-same, bits_value-bit, bits_value-field}
 
 -- bits, with those of a number in a field of them
 unfoldable pub field_bit : (ℕ → Bool) → ℕ → ℕ → ℕ → ℕ → Bool
-field_bit bit first width value q = cond (ltb q first) (bit q) (cond (ltb q (first + width)) (value / 2 ^ (width - 1 - (q - first)) % 2 == 1) (bit q))
+field_bit bit first width value q =
+    cond (ltb q first) (bit q) (cond (ltb q (first + width)) (value / 2 ^ (width - 1 - (q - first)) % 2 == 1) (bit q))
 
 pub field_bit-before : (bit : ℕ → Bool) (first width value q : ℕ) → q < first → field_bit bit first width value q ≡ bit q
 unfolding field_bit
@@ -21,7 +22,8 @@ field_bit-after bit first width value q le =
     let not_in : ltb q (first + width) ≡ false = le-ltb q (first + width) le in
     rw (not_before, not_in) refl
 
-pub field_bit-in : (bit : ℕ → Bool) (first width value k : ℕ) → k < width → field_bit bit first width value (first + k) ≡ (value / 2 ^ (width - 1 - k) % 2 == 1)
+pub field_bit-in : (bit : ℕ → Bool) (first width value k : ℕ) → k < width →
+    field_bit bit first width value (first + k) ≡ (value / 2 ^ (width - 1 - k) % 2 == 1)
 unfolding field_bit
 field_bit-in bit first width value k lt =
     let not_before : ltb (first + k) first ≡ false = le-ltb (first + k) first (omega arith) in
@@ -34,16 +36,21 @@ module _ (bit : ℕ → Bool) (begin a w s value old : ℕ) (is : old ≡ bits_v
   new : ℕ → Bool
   new = field_bit bit (begin + a) w value
 
-  new_spelled : bits_value (field_bit bit (begin + a) w value) begin (a + (w + s)) ≡ bits_value bit begin a * 2 ^ (w + s) + (value * 2 ^ s + bits_value bit (begin + a + w) s)
+  new_spelled : bits_value (field_bit bit (begin + a) w value) begin (a + (w + s)) ≡ bits_value bit begin a * 2 ^ (w + s) +
+      (value * 2 ^ s + bits_value bit (begin + a + w) s)
   new_spelled =
       let front : bits_value (field_bit bit (begin + a) w value) begin a ≡ bits_value bit begin a =
-      bits_value-same (field_bit bit (begin + a) w value) bit begin a (λ k lt. field_bit-before bit (begin + a) w value (begin + k) (omega arith)) in
+      bits_value-same (field_bit bit (begin + a) w value) bit begin a
+      (λ k lt. field_bit-before bit (begin + a) w value (begin + k) (omega arith)) in
       let middle : bits_value (field_bit bit (begin + a) w value) (begin + a) w ≡ value =
-      bits_value-of_number (field_bit bit (begin + a) w value) (begin + a) value w (λ k lt. field_bit-in bit (begin + a) w value k lt) ∙ mod-eq_of_lt fits in
+      bits_value-of_number (field_bit bit (begin + a) w value) (begin + a) value w (λ k lt. field_bit-in bit (begin + a) w value k lt)
+      ∙ mod-eq_of_lt fits in
       let back : bits_value (field_bit bit (begin + a) w value) (begin + a + w) s ≡ bits_value bit (begin + a + w) s =
-      bits_value-same (field_bit bit (begin + a) w value) bit (begin + a + w) s (λ k lt. field_bit-after bit (begin + a) w value (begin + a + w + k) (omega arith)) in
+      bits_value-same (field_bit bit (begin + a) w value) bit (begin + a + w) s
+      (λ k lt. field_bit-after bit (begin + a) w value (begin + a + w + k) (omega arith)) in
       bits_value-add (field_bit bit (begin + a) w value) begin a (w + s)
-      ∙ ap (λ n. bits_value (field_bit bit (begin + a) w value) begin a * 2 ^ (w + s) + n) (bits_value-add (field_bit bit (begin + a) w value) (begin + a) w s)
+      ∙ ap (λ n. bits_value (field_bit bit (begin + a) w value) begin a * 2 ^ (w + s) + n)
+      (bits_value-add (field_bit bit (begin + a) w value) (begin + a) w s)
       ∙ (λ i. front i * 2 ^ (w + s) + (middle i * 2 ^ s + back i))
 
   old_high : old / 2 ^ (w + s) ≡ bits_value bit begin a
@@ -59,7 +66,7 @@ module _ (bit : ℕ → Bool) (begin a w s value old : ℕ) (is : old ≡ bits_v
       ∙ mod_low (bits_value bit begin (a + w)) s (bits_value bit (begin + (a + w)) s) (bits_value-lt bit (begin + (a + w)) s)
       ∙ ap (λ n. bits_value bit n s) at
 
-  pub written_number : a + (w + s) ≤ 64 → s < 8
+  written_number : a + (w + s) ≤ 64 → s < 8
       → old / 2 ^ (w + s) * 2 ^ (w + s) % 2 ^ 64 + value * 2 ^ s % 2 ^ 64 + bit_and old (1 * 2 ^ s % 2 ^ 64 - 1)
       ≡ bits_value (field_bit bit (begin + a) w value) begin (a + (w + s))
   written_number small few =
@@ -71,13 +78,15 @@ module _ (bit : ℕ → Bool) (begin a w s value old : ℕ) (is : old ≡ bits_v
       omega (arith, high, middle, low, new_spelled)
 
 -- octets whose value is that of bits, from one of them to another, have these bits
-pub octets_from_spelled : (octets : List ℕ) (bit : ℕ → Bool) (k : ℕ) → get_or octets (k / 8) 0 ≡ bits_value bit (8 * (k / 8)) 8 → octet_bit octets k ≡ bit k
+octets_from_spelled : (octets : List ℕ) (bit : ℕ → Bool) (k : ℕ) → get_or octets (k / 8) 0 ≡ bits_value bit (8 * (k / 8)) 8 →
+    octet_bit octets k ≡ bit k
 octets_from_spelled octets bit k is =
     let at : 8 * (k / 8) + k % 8 ≡ k = omega arith in
     ap (λ n. n / 2 ^ (7 - k % 8) % 2 == 1) is ∙ bits_value-bit bit (8 * (k / 8)) 8 (k % 8) (omega arith) ∙ ap bit at
 
 -- one octet of the value of several
-pub octet_of_number : (bit : ℕ → Bool) (begin past k number : ℕ) → begin ≤ k → k < past → number ≡ bits_value bit (8 * begin) (8 * (past - begin))
+octet_of_number : (bit : ℕ → Bool) (begin past k number : ℕ) → begin ≤ k → k < past →
+    number ≡ bits_value bit (8 * begin) (8 * (past - begin))
     → bit_and (number / 2 ^ (8 * (past - 1 - k))) 255 ≡ bits_value bit (8 * k) 8
 octet_of_number bit begin past k number le lt is =
     and_mask (number / 2 ^ (8 * (past - 1 - k))) 8
@@ -91,18 +100,11 @@ past_of first width = (first + width + 7) / 8
 abbrev pub bits_after : ℕ → ℕ → ℕ
 bits_after first width = 8 * ((first + width + 7) / 8) - (first + width)
 
--- the number that is written into the octets that a field touches
-pub field_number : (octets : List ℕ) (first width value given old : ℕ) → width ≤ 32 → value < 2 ^ width → given ≡ value
-    → old ≡ bits_value (octet_bit octets) (8 * (first / 8)) (8 * (past_of first width - first / 8))
-    → old / 2 ^ (width + bits_after first width) * 2 ^ (width + bits_after first width) % 2 ^ 64 + given * 2 ^ bits_after first width % 2 ^ 64 + bit_and old (1 * 2 ^ bits_after first width % 2 ^ 64 - 1)
-    ≡ bits_value (field_bit (octet_bit octets) first width value) (8 * (first / 8)) (8 * (past_of first width - first / 8))
-field_number octets first width value given old narrow fits same is =
-    let parts : 8 * (past_of first width - first / 8) ≡ first - 8 * (first / 8) + (width + bits_after first width) = omega arith in
-    let at : 8 * (first / 8) + (first - 8 * (first / 8)) ≡ first = omega arith in
-    ap (λ n. old / 2 ^ (width + bits_after first width) * 2 ^ (width + bits_after first width) % 2 ^ 64 + n * 2 ^ bits_after first width % 2 ^ 64 + bit_and old (1 * 2 ^ bits_after first width % 2 ^ 64 - 1)) same
-    ∙ written_number (octet_bit octets) (8 * (first / 8)) (first - 8 * (first / 8)) width (bits_after first width) value old
-    (is ∙ ap (bits_value (octet_bit octets) (8 * (first / 8))) parts) fits (omega arith) (omega arith)
-    ∙ (λ i. bits_value (field_bit (octet_bit octets) (at i) width value) (8 * (first / 8)) (sym parts i))
+-- the number that is written into the octets that a field touches, from the one that they had
+abbrev pub field_number : ℕ → ℕ → ℕ → ℕ → ℕ
+field_number first width given old =
+    old / 2 ^ (width + bits_after first width) * 2 ^ (width + bits_after first width) % 2 ^ 64
+    + given * 2 ^ bits_after first width % 2 ^ 64 + bit_and old (1 * 2 ^ bits_after first width % 2 ^ 64 - 1)
 
 written_bits : (octets new : List ℕ) (bit : ℕ → Bool) (begin past number : ℕ) → number ≡ bits_value bit (8 * begin) (8 * (past - begin))
     → ((j : ℕ) → begin ≤ j → j < past → get_or new j 0 ≡ bit_and (number / 2 ^ (8 * (past - 1 - j))) 255)
@@ -119,15 +121,34 @@ written_bits octets new bit begin past number is written before behind bit_befor
     (cases_lt (q / 8) past))
     (cases_lt (q / 8) begin)
 
--- octets into which that number is written have the field's bits, and all others are unchanged
-pub field_written : (octets new : List ℕ) (first width value number k : ℕ)
-    → number ≡ bits_value (field_bit (octet_bit octets) first width value) (8 * (first / 8)) (8 * (past_of first width - first / 8))
-    → k ≡ past_of first width
-    → ((j : ℕ) → first / 8 ≤ j → j < k → get_or new j 0 ≡ bit_and (number / 2 ^ (8 * (past_of first width - 1 - j))) 255)
-    → ((j : ℕ) → j < first / 8 → get_or new j 0 ≡ get_or octets j 0) → ((j : ℕ) → k ≤ j → get_or new j 0 ≡ get_or octets j 0)
-    → (q : ℕ) → octet_bit new q ≡ field_bit (octet_bit octets) first width value q
-field_written octets new first width value number k is at_end written before behind =
-    written_bits octets new (field_bit (octet_bit octets) first width value) (first / 8) (past_of first width) number is
-    (λ j le lt. written j le (omega arith)) before (λ j le. behind j (omega arith))
-    (λ q lt. field_bit-before (octet_bit octets) first width value q (omega arith))
-    (λ q le. field_bit-after (octet_bit octets) first width value q (omega arith))
+module _ (octets : List ℕ) (first width value given old : ℕ) (narrow : width ≤ 32) (fits : value < 2 ^ width) (same : given ≡ value)
+    (is : old ≡ bits_value (octet_bit octets) (8 * (first / 8)) (8 * (past_of first width - first / 8))) where
+  number_is : field_number first width given old
+      ≡ bits_value (field_bit (octet_bit octets) first width value) (8 * (first / 8)) (8 * (past_of first width - first / 8))
+  number_is =
+      let parts : 8 * (past_of first width - first / 8) ≡ first - 8 * (first / 8) + (width + bits_after first width) = omega arith in
+      let at : 8 * (first / 8) + (first - 8 * (first / 8)) ≡ first = omega arith in
+      ap (λ n. field_number first width n old) same
+      ∙ written_number (octet_bit octets) (8 * (first / 8)) (first - 8 * (first / 8)) width (bits_after first width) value old
+      (is ∙ ap (bits_value (octet_bit octets) (8 * (first / 8))) parts) fits (omega arith) (omega arith)
+      ∙ (λ i. bits_value (field_bit (octet_bit octets) (at i) width value) (8 * (first / 8)) (sym parts i))
+
+  pub field_number-small : field_number first width given old < 2 ^ 64
+  field_number-small = omega (
+    arith,
+    number_is,
+    bits_value-below_number (field_bit (octet_bit octets) first width value) (8 * (first / 8))
+        (8 * (past_of first width - first / 8)) (omega arith),
+  )
+
+  -- octets into which that number is written have the field's bits, and all others are unchanged
+  pub field_written : (new : List ℕ) (k : ℕ) → k ≡ past_of first width
+      → ((j : ℕ) → first / 8 ≤ j → j < k
+      → get_or new j 0 ≡ bit_and (field_number first width given old / 2 ^ (8 * (past_of first width - 1 - j))) 255)
+      → ((j : ℕ) → j < first / 8 → get_or new j 0 ≡ get_or octets j 0) → ((j : ℕ) → k ≤ j → get_or new j 0 ≡ get_or octets j 0)
+      → (q : ℕ) → octet_bit new q ≡ field_bit (octet_bit octets) first width value q
+  field_written new k at_end written before behind =
+      written_bits octets new (field_bit (octet_bit octets) first width value) (first / 8) (past_of first width)
+      (field_number first width given old) number_is (λ j le lt. written j le (omega arith)) before (λ j le. behind j (omega arith))
+      (λ q lt. field_bit-before (octet_bit octets) first width value q (omega arith))
+      (λ q le. field_bit-after (octet_bit octets) first width value q (omega arith))

@@ -9,7 +9,8 @@ use Rattle.dmr_bits.proofs.BitLemmas.{bits_value-zero, bits_value-octet_more}
 use Rattle.dmr_bits.proofs.PackedLemmas.{octet_of_words}
 
 -- the number of eight octets is the value of their bits
-pub number-of_octets : (octets : List ℕ) → ((k : ℕ) → get_or octets k 0 < 256) → from_be_bytes w64 octets ≡ bits_value (octet_bit octets) 0 64
+pub number-of_octets : (octets : List ℕ) → ((k : ℕ) → get_or octets k 0 < 256) →
+    from_be_bytes w64 octets ≡ bits_value (octet_bit octets) 0 64
 number-of_octets octets small =
     let value : ℕ → ℕ = λ k. bits_value (octet_bit octets) 0 (8 * k) in
     let none : value 0 ≡ 0 = bits_value-zero (octet_bit octets) 0 in
@@ -27,7 +28,8 @@ number-of_octets octets small =
 abbrev pub octet_at : List ℕ → ℕ → ℕ
 octet_at words k = bits_value (word_bit (bits_of words)) (8 * k) 8
 
-octet-of_number : (words : List ℕ) → IsPacked words → (j m : ℕ) → m < 8 → get_or words j 0 / 2 ^ (56 - 8 * m) % 256 ≡ octet_at words (8 * j + m)
+octet-of_number : (words : List ℕ) → IsPacked words → (j m : ℕ) → m < 8 →
+    get_or words j 0 / 2 ^ (56 - 8 * m) % 256 ≡ octet_at words (8 * j + m)
 octet-of_number words packed j m lt =
     let number : (8 * j + m) / 8 ≡ j = omega arith in
     let shift : 56 - 8 * ((8 * j + m) % 8) ≡ 56 - 8 * m = omega arith in
@@ -37,13 +39,17 @@ octet-of_number words packed j m lt =
 
 -- the octets of each number are eight octets of the word
 pub octets-of_number : (words : List ℕ) → IsPacked words → (j : ℕ)
-    → to_be_bytes w64 (get_or words j 0) ≡ octet_at words (8 * j) ∷ octet_at words (8 * j + 1) ∷ octet_at words (8 * j + 2) ∷ octet_at words (8 * j + 3)
+    → to_be_bytes w64 (get_or words j 0) ≡ octet_at words (8 * j) ∷ octet_at words (8 * j + 1) ∷ octet_at words (8 * j + 2) ∷ octet_at words
+    (8 * j + 3)
     ∷ octet_at words (8 * j + 4) ∷ octet_at words (8 * j + 5) ∷ octet_at words (8 * j + 6) ∷ octet_at words (8 * j + 7) ∷ []
 octets-of_number words packed j =
-    let last : get_or words j 0 % 256 ≡ octet_at words (8 * j + 7) = ap (λ n. n % 256) (omega arith) ∙ octet-of_number words packed j 7 (omega arith) in
-    let first : get_or words j 0 / 2 ^ 56 % 256 ≡ octet_at words (8 * j) = octet-of_number words packed j 0 (omega arith) ∙ ap (octet_at words) (omega arith) in
+    let last : get_or words j 0 % 256 ≡ octet_at words (8 * j + 7) =
+    ap (λ n. n % 256) (omega arith) ∙ octet-of_number words packed j 7 (omega arith) in
+    let first : get_or words j 0 / 2 ^ 56 % 256 ≡ octet_at words (8 * j) =
+    octet-of_number words packed j 0 (omega arith) ∙ ap (octet_at words) (omega arith) in
     (λ i. first i ∷ octet-of_number words packed j 1 (omega arith) i ∷ octet-of_number words packed j 2 (omega arith) i
-    ∷ octet-of_number words packed j 3 (omega arith) i ∷ octet-of_number words packed j 4 (omega arith) i ∷ octet-of_number words packed j 5 (omega arith) i
+    ∷ octet-of_number words packed j 3 (omega arith) i ∷ octet-of_number words packed j 4 (omega arith) i ∷ octet-of_number words packed j 5
+    (omega arith) i
     ∷ octet-of_number words packed j 6 (omega arith) i ∷ last i ∷ [])
 
 -- the octet of the bits from place 192 on

@@ -1,5 +1,5 @@
 -- The table of codewords is that of the equations, the interleaving and the information's cells.
-use Rattle.std.proofs.Common.{◌≡◌, ◌==◌, ℕ, ◌+◌, ◌-◌, ◌*◌, ◌/◌, ◌%◌, ◌^◌, ◌<◌, ◌≤◌, Bool, true, false, ◌&&◌, List, length, get_or, refl, sym, ap, ◌∙◌, arith, ⊎_elim}
+use Rattle.std.proofs.Common.{◌≡◌, ◌==◌, ℕ, ◌+◌, ◌-◌, ◌/◌, ◌%◌, ◌^◌, ◌<◌, ◌≤◌, Bool, true, false, ◌&&◌, List, length, get_or, refl, sym, ap, ◌∙◌, arith, ⊎_elim}
 use Rattle.std.specs.Int.{bit_at}
 use Rattle.std.proofs.Math.Nat.{zero-div}
 use Rattle.std.proofs.lemmas.Bool.{agree_below, agree_below_at, eqb-true, cases_lt}
@@ -11,6 +11,7 @@ use Rattle.dmr_bptc.specs.Groups.{added, number_at, number_of_bit, AreSumsOfBits
 use Rattle.dmr_bptc.specs.declared.encoding.TheConstants.{ENCODED}
 use Rattle.dmr_bptc.specs.Bptc.{row_equations, column_equations, cell, place_of, IsEncoding}
 use Rattle.dmr_bptc.specs.Mending.{syndrome}
+use Rattle.dmr_bptc.proofs.TableLemmas.{agree_in, agree_in-at, agree_in_fours, agree_in_fours-at}
 use Rattle.dmr_bptc.proofs.CodewordSumLemmas.{bit-of_sum, codeword-from_sum}
 use Rattle.dmr_bptc.proofs.OddSumLemmas.{odd_below, odd_below-same, odd_below-none, odd_below-one, and_false, added_by}
 
@@ -25,23 +26,14 @@ unfoldable pub code_number : ℕ → ℕ → ℕ
 code_number part k = number_of_bit ENCODED.entries part k
 
 -- the entries of a group of four add the same as its bits one by one
-unfoldable entries_agree : ℕ → ℕ → ℕ → Bool
-entries_agree part k count = agree_below (λ value. code_entry part k value == added_by (code_number part) k value) (λ _. true) count
-
-entries_right : agree_below (λ n. entries_agree (n % 4) (n / 4) 16) (λ _. true) 96 ≡ true
-unfolding entries_agree code_entry code_number added_by added
+entries_right : agree_in_fours (λ k part value. code_entry part k value == added_by (code_number part) k value) (λ k part value. true) 16 24 ≡ true
+unfolding agree_in_fours agree_in code_entry code_number added_by added
 entries_right = refl
-
-entries_agree-at : (part k count value : ℕ) → entries_agree part k count ≡ true → value < count → code_entry part k value ≡ added_by (code_number part) k value
-unfolding entries_agree
-entries_agree-at part k count value all lt = eqb-true _ _ (agree_below_at (λ value. code_entry part k value == added_by (code_number part) k value) (λ _. true) count value all lt)
 
 code_entry-is : (part k value : ℕ) → part < 4 → k < 24 → value < 16 → code_entry part k value ≡ added_by (code_number part) k value
 code_entry-is part k value part_lt k_lt lt =
-    let of_part : part ≡ (4 * k + part) % 4 = omega arith in
-    let of_group : k ≡ (4 * k + part) / 4 = omega arith in
-    entries_agree-at part k 16 value
-    ((λ i. entries_agree (of_part i) (of_group i) 16) ∙ agree_below_at (λ n. entries_agree (n % 4) (n / 4) 16) (λ _. true) 96 (4 * k + part) entries_right (omega arith)) lt
+    eqb-true _ _ (agree_in_fours-at (λ k part value. code_entry part k value == added_by (code_number part) k value) (λ k part value. true) 16 24
+    k part value entries_right k_lt part_lt lt)
 
 pub encoded-sums : AreSumsOfBits ENCODED.entries
 unfolding code_entry code_number added_by
@@ -53,39 +45,28 @@ encoded-sums part group value part_lt group_lt lt = code_entry-is part group val
 unfoldable pub code_bit : ℕ → ℕ → Bool
 code_bit k place = bit_at (code_number (place / 64) k) (63 - place % 64) == 1
 
-unfoldable rows_agree : ℕ → ℕ → Bool
-rows_agree k count = agree_below (λ row. syndrome row_equations (λ column. code_bit k (place_of row column)) == 0) (λ _. true) count
+-- it satisfies the equations of each row and of each column
+abbrev row_syndrome : ℕ → ℕ → ℕ
+row_syndrome k row = syndrome row_equations (λ column. code_bit k (place_of row column))
 
-rows_right : agree_below (λ k. rows_agree k 13) (λ _. true) 96 ≡ true
-unfolding rows_agree row_equations code_bit code_number
+rows_right : agree_in (λ k row. row_syndrome k row == 0) (λ k row. true) 13 96 ≡ true
+unfolding agree_in row_equations code_bit code_number
 rows_right = refl
 
-rows_agree-at : (k count row : ℕ) → rows_agree k count ≡ true → row < count → syndrome row_equations (λ column. code_bit k (place_of row column)) ≡ 0
-unfolding rows_agree
-rows_agree-at k count row all lt = eqb-true _ _ (agree_below_at (λ row. syndrome row_equations (λ column. code_bit k (place_of row column)) == 0) (λ _. true) count row all lt)
+abbrev column_syndrome : ℕ → ℕ → ℕ
+column_syndrome k column = syndrome column_equations (λ row. code_bit k (place_of row column))
 
-unfoldable columns_agree : ℕ → ℕ → Bool
-columns_agree k count = agree_below (λ column. syndrome column_equations (λ row. code_bit k (place_of row column)) == 0) (λ _. true) count
-
-columns_right : agree_below (λ k. columns_agree k 15) (λ _. true) 96 ≡ true
-unfolding columns_agree column_equations code_bit code_number
+columns_right : agree_in (λ k column. column_syndrome k column == 0) (λ k column. true) 15 96 ≡ true
+unfolding agree_in column_equations code_bit code_number
 columns_right = refl
 
-columns_agree-at : (k count column : ℕ) → columns_agree k count ≡ true → column < count → syndrome column_equations (λ row. code_bit k (place_of row column)) ≡ 0
-unfolding columns_agree
-columns_agree-at k count column all lt = eqb-true _ _ (agree_below_at (λ column. syndrome column_equations (λ row. code_bit k (place_of row column)) == 0) (λ _. true) count column all lt)
+-- only the codeword of information bit j has a 1 in the cell of that bit
+abbrev in_cell_of : ℕ → ℕ → Bool
+in_cell_of j k = code_bit k (place_of ((j + 3) / 11) ((j + 3) % 11))
 
--- among the codewords of the first `count` information bits, only that of bit j has a 1 in the cell of bit j
-unfoldable information_agrees : ℕ → ℕ → Bool
-information_agrees j count = agree_below (λ k. code_bit k (place_of ((j + 3) / 11) ((j + 3) % 11))) (λ k. j == k) count
-
-information_right : agree_below (λ j. information_agrees j 96) (λ _. true) 96 ≡ true
-unfolding information_agrees code_bit code_number
+information_right : agree_in in_cell_of (λ j k. j == k) 96 96 ≡ true
+unfolding agree_in code_bit code_number
 information_right = refl
-
-information_agrees-at : (j count k : ℕ) → information_agrees j count ≡ true → k < count → code_bit k (place_of ((j + 3) / 11) ((j + 3) % 11)) ≡ (j == k)
-unfolding information_agrees
-information_agrees-at j count k all lt = agree_below_at (λ k. code_bit k (place_of ((j + 3) / 11) ((j + 3) % 11))) (λ k. j == k) count k all lt
 
 -- none of the codewords of the first `count` information bits has a 1 at this place
 unfoldable none_has : ℕ → ℕ → Bool
@@ -140,12 +121,12 @@ encoding-is octets word len bits =
     let is : (row column : ℕ) → cell word row column ≡ sum_bit octets (place_of row column) = λ row column. bits (place_of row column) ∙ packed_bit-code_words octets (place_of row column) (omega arith) in
     record {
       is_codeword = codeword-from_sum (octet_bit octets) code_bit 96 word len is
-          (λ k row k_lt lt. rows_agree-at k 13 row (agree_below_at (λ k. rows_agree k 13) (λ _. true) 96 k rows_right k_lt) lt)
-          (λ k column k_lt lt. columns_agree-at k 15 column (agree_below_at (λ k. columns_agree k 15) (λ _. true) 96 k columns_right k_lt) lt);
+          (λ k row k_lt lt. eqb-true _ _ (agree_in-at (λ k row. row_syndrome k row == 0) (λ k row. true) 13 96 k row rows_right k_lt lt))
+          (λ k column k_lt lt. eqb-true _ _ (agree_in-at (λ k column. column_syndrome k column == 0) (λ k column. true) 15 96 k column columns_right k_lt lt));
       information = λ j lt. sym (
           is ((j + 3) / 11) ((j + 3) % 11)
           ∙ odd_below-same (λ k. octet_bit octets k && code_bit k (place_of ((j + 3) / 11) ((j + 3) % 11))) (λ k. octet_bit octets k && (j == k)) 96
-          (λ k k_lt. ap (λ b. octet_bit octets k && b) (information_agrees-at j 96 k (agree_below_at (λ j. information_agrees j 96) (λ _. true) 96 j information_right lt) k_lt))
+          (λ k k_lt. ap (λ b. octet_bit octets k && b) (agree_in-at in_cell_of (λ j k. j == k) 96 96 j k information_right lt k_lt))
           ∙ odd_below-one (octet_bit octets) j 96 lt);
       free = bits 0 ∙ packed_bit-code_words octets 0 (omega arith) ∙ none octets 0 free_right;
       reserved = λ column lt. is 0 column ∙ none octets (place_of 0 column) (agree_below_at (λ column. none_has (place_of 0 column) 96) (λ _. true) 3 column reserved_right lt);

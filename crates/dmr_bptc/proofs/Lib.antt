@@ -1,3 +1,4 @@
+pub mod TableLemmas
 pub mod BitSumLemmas
 pub mod CountLemmas
 pub mod LineLemmas

@@ -1,7 +1,6 @@
 -- The masks are those of the equations and the interleaving: the bits set under an equation's mask add up to its
 -- failure.
-use Rattle.std.proofs.Common.{◌≡◌, ◌==◌, ℕ, zero, suc, ◌+◌, ◌*◌, ◌/◌, ◌%◌, ◌<◌, Bool, true, false, cond, ◌&&◌, List, [], ◌∷◌, get_or, refl, sym, ap, ◌∙◌, arith, zero-add}
-use Rattle.std.proofs.lemmas.Bool.{agree_below, agree_below_at}
+use Rattle.std.proofs.Common.{◌≡◌, ◌==◌, ℕ, zero, suc, ◌+◌, ◌%◌, ◌<◌, Bool, true, false, cond, ◌&&◌, List, [], ◌∷◌, get_or, refl, sym, ap, ◌∙◌, arith, zero-add}
 use Rattle.dmr_bits.specs.Bits.{count_from}
 use Rattle.dmr_bits.specs.Words.{word_bit}
 use Rattle.dmr_bits.specs.Packed.{packed_bit, set_under}
@@ -13,46 +12,20 @@ use Rattle.dmr_bptc.specs.Lines.{line_place, line_bit, equations_of}
 use Rattle.dmr_bptc.proofs.BitSumLemmas.{add_bits-zero, add_bits-same}
 use Rattle.dmr_bptc.proofs.ParityLemmas.{equation_at, satisfies-from_each, satisfies_at, line_table}
 use Rattle.dmr_bptc.proofs.OddSumLemmas.{odd_below, odd_below-same, odd_below-parity}
+use Rattle.dmr_bptc.proofs.TableLemmas.{agree_in, agree_in_fours, agree_in_fours-at}
 use Rattle.dmr_bptc.proofs.SumTableLemmas.{coefficient, line_place-lt}
 
 -- ---- the tables
 
--- at the places below `count`, the mask has the coefficients of the line's equation
-unfoldable row_agrees : ℕ → ℕ → ℕ → Bool
-row_agrees row e count = agree_below (packed_bit (get_or (get_or ROW_MASKS row []) e [])) (coefficient (Row row) (equation_at row_equations e)) count
-
-rows_right : agree_below (λ n. row_agrees (n / 4) (n % 4) 196) (λ _. true) 52 ≡ true
-unfolding row_agrees row_equations
+rows_right : agree_in_fours (λ row e. packed_bit (get_or (get_or ROW_MASKS row []) e []))
+    (λ row e. coefficient (Row row) (equation_at row_equations e)) 196 13 ≡ true
+unfolding agree_in_fours agree_in row_equations
 rows_right = refl
 
-row_agrees-at : (row e count place : ℕ) → row_agrees row e count ≡ true → place < count → packed_bit (get_or (get_or ROW_MASKS row []) e []) place ≡ coefficient (Row row) (equation_at row_equations e) place
-unfolding row_agrees
-row_agrees-at row e count place all lt = agree_below_at (packed_bit (get_or (get_or ROW_MASKS row []) e [])) (coefficient (Row row) (equation_at row_equations e)) count place all lt
-
-row_right : (row e : ℕ) → row < 13 → e < 4 → row_agrees row e 196 ≡ true
-row_right row e lt e_lt =
-    let of_row : row ≡ (4 * row + e) / 4 = omega arith in
-    let of_equation : e ≡ (4 * row + e) % 4 = omega arith in
-    (λ i. row_agrees (of_row i) (of_equation i) 196)
-    ∙ agree_below_at (λ n. row_agrees (n / 4) (n % 4) 196) (λ _. true) 52 (4 * row + e) rows_right (omega arith)
-
-unfoldable column_agrees : ℕ → ℕ → ℕ → Bool
-column_agrees column e count = agree_below (packed_bit (get_or (get_or COLUMN_MASKS column []) e [])) (coefficient (Column column) (equation_at column_equations e)) count
-
-columns_right : agree_below (λ n. column_agrees (n / 4) (n % 4) 196) (λ _. true) 60 ≡ true
-unfolding column_agrees column_equations
+columns_right : agree_in_fours (λ column e. packed_bit (get_or (get_or COLUMN_MASKS column []) e []))
+    (λ column e. coefficient (Column column) (equation_at column_equations e)) 196 15 ≡ true
+unfolding agree_in_fours agree_in column_equations
 columns_right = refl
-
-column_agrees-at : (column e count place : ℕ) → column_agrees column e count ≡ true → place < count → packed_bit (get_or (get_or COLUMN_MASKS column []) e []) place ≡ coefficient (Column column) (equation_at column_equations e) place
-unfolding column_agrees
-column_agrees-at column e count place all lt = agree_below_at (packed_bit (get_or (get_or COLUMN_MASKS column []) e [])) (coefficient (Column column) (equation_at column_equations e)) count place all lt
-
-column_right : (column e : ℕ) → column < 15 → e < 4 → column_agrees column e 196 ≡ true
-column_right column e lt e_lt =
-    let of_column : column ≡ (4 * column + e) / 4 = omega arith in
-    let of_equation : e ≡ (4 * column + e) % 4 = omega arith in
-    (λ i. column_agrees (of_column i) (of_equation i) 196)
-    ∙ agree_below_at (λ n. column_agrees (n / 4) (n % 4) 196) (λ _. true) 60 (4 * column + e) columns_right (omega arith)
 
 -- ---- even counts
 
@@ -104,8 +77,14 @@ module _ (word : List Bool) (line : GridLine) (masks : List (List ℕ))
       even-from (set_under word (get_or masks e [])) (is_under e lt ∙ add_bits-same (line_bit word line (equation_at (equations_of line) e).0) (parity (line_bit word line) (equation_at (equations_of line) e).1)
       (satisfies_at (equations_of line) (line_bit word line) satisfies e (omega (arith, (line_table line).len))))
 
-pub row_masks : (row : ℕ) → row < 13 → (e place : ℕ) → e < 4 → place < 196 → packed_bit (get_or (get_or ROW_MASKS row []) e []) place ≡ coefficient (Row row) (equation_at row_equations e) place
-row_masks row lt e place e_lt place_lt = row_agrees-at row e 196 place (row_right row e lt e_lt) place_lt
+pub row_masks : (row : ℕ) → row < 13 → (e place : ℕ) → e < 4 → place < 196 →
+    packed_bit (get_or (get_or ROW_MASKS row []) e []) place ≡ coefficient (Row row) (equation_at row_equations e) place
+row_masks row lt e place e_lt place_lt =
+    agree_in_fours-at (λ row e. packed_bit (get_or (get_or ROW_MASKS row []) e []))
+    (λ row e. coefficient (Row row) (equation_at row_equations e)) 196 13 row e place rows_right lt e_lt place_lt
 
-pub column_masks : (column : ℕ) → column < 15 → (e place : ℕ) → e < 4 → place < 196 → packed_bit (get_or (get_or COLUMN_MASKS column []) e []) place ≡ coefficient (Column column) (equation_at column_equations e) place
-column_masks column lt e place e_lt place_lt = column_agrees-at column e 196 place (column_right column e lt e_lt) place_lt
+pub column_masks : (column : ℕ) → column < 15 → (e place : ℕ) → e < 4 → place < 196 →
+    packed_bit (get_or (get_or COLUMN_MASKS column []) e []) place ≡ coefficient (Column column) (equation_at column_equations e) place
+column_masks column lt e place e_lt place_lt =
+    agree_in_fours-at (λ column e. packed_bit (get_or (get_or COLUMN_MASKS column []) e []))
+    (λ column e. coefficient (Column column) (equation_at column_equations e)) 196 15 column e place columns_right lt e_lt place_lt

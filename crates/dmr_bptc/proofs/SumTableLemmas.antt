@@ -12,6 +12,7 @@ use Rattle.dmr_bptc.specs.declared.sum_table.TheConstants.{SUMS}
 use Rattle.dmr_bptc.specs.Bptc.{parity, row_equations, column_equations, cell, place_of}
 use Rattle.dmr_bptc.specs.Lines.{line_place, line_bit, equations_of}
 use Rattle.dmr_bptc.specs.Mending.{fails, syndrome}
+use Rattle.dmr_bptc.proofs.TableLemmas.{agree_in, agree_in-at, agree_in_fours, agree_in_fours-at}
 use Rattle.dmr_bptc.proofs.ParityLemmas.{equation_at}
 use Rattle.dmr_bptc.proofs.OddSumLemmas.{odd_below-same, odd_below-one, odd_below-parity, added-bit, added-lt, added_by}
 
@@ -26,23 +27,14 @@ unfoldable pub sum_number : ℕ → ℕ → ℕ
 sum_number part place = get_or (get_or (get_or SUMS.entries (place / 4) []) (2 ^ (3 - place % 4)) []) part 0
 
 -- the entries of a group of four add the same as its places one by one
-unfoldable entries_agree : ℕ → ℕ → ℕ → Bool
-entries_agree part k count = agree_below (λ value. sum_entry part k value == added_by (sum_number part) k value) (λ _. true) count
-
-entries_right : agree_below (λ n. entries_agree (n % 4) (n / 4) 16) (λ _. true) 196 ≡ true
-unfolding entries_agree sum_entry sum_number added_by added
+entries_right : agree_in_fours (λ k part value. sum_entry part k value == added_by (sum_number part) k value) (λ k part value. true) 16 49 ≡ true
+unfolding agree_in_fours agree_in sum_entry sum_number added_by added
 entries_right = refl
-
-entries_agree-at : (part k count value : ℕ) → entries_agree part k count ≡ true → value < count → sum_entry part k value ≡ added_by (sum_number part) k value
-unfolding entries_agree
-entries_agree-at part k count value all lt = eqb-true _ _ (agree_below_at (λ value. sum_entry part k value == added_by (sum_number part) k value) (λ _. true) count value all lt)
 
 pub sum_entry-is : (part k value : ℕ) → part < 4 → k < 49 → value < 16 → sum_entry part k value ≡ added_by (sum_number part) k value
 sum_entry-is part k value part_lt k_lt lt =
-    let of_part : part ≡ (4 * k + part) % 4 = omega arith in
-    let of_group : k ≡ (4 * k + part) / 4 = omega arith in
-    entries_agree-at part k 16 value
-    ((λ i. entries_agree (of_part i) (of_group i) 16) ∙ agree_below_at (λ n. entries_agree (n % 4) (n / 4) 16) (λ _. true) 196 (4 * k + part) entries_right (omega arith)) lt
+    eqb-true _ _ (agree_in_fours-at (λ k part value. sum_entry part k value == added_by (sum_number part) k value) (λ k part value. true) 16 49
+    k part value entries_right k_lt part_lt lt)
 
 -- ---- syndromes
 
@@ -50,51 +42,29 @@ sum_entry-is part k value part_lt k_lt lt =
 abbrev pub coefficient : GridLine → ℕ × List ℕ → ℕ → Bool
 coefficient line e place = parity (λ k. line_place line k == place) (e.0 ∷ e.1)
 
--- at the places below `count`, one bit of the number that a place adds has the coefficients of the column's equation
-unfoldable column_agrees : ℕ → ℕ → ℕ → Bool
-column_agrees column e count = agree_below (λ place. bit_at (sum_number 0 place) (4 * column + (3 - e)) == 1) (coefficient (Column column) (equation_at column_equations e)) count
+-- one bit of the number that a place adds has the coefficients of the equation of a column, or of a row
+abbrev bit_of : ℕ → ℕ → ℕ → ℕ → Bool
+bit_of part line e place = bit_at (sum_number part place) (4 * line + (3 - e)) == 1
 
-columns_right : agree_below (λ n. column_agrees (n / 4) (n % 4) 196) (λ _. true) 60 ≡ true
-unfolding column_agrees column_equations sum_number
+columns_right : agree_in_fours (bit_of 0) (λ column e. coefficient (Column column) (equation_at column_equations e)) 196 15 ≡ true
+unfolding agree_in_fours agree_in column_equations sum_number
 columns_right = refl
 
-column_agrees-at : (column e count place : ℕ) → column_agrees column e count ≡ true → place < count
-    → (bit_at (sum_number 0 place) (4 * column + (3 - e)) == 1) ≡ coefficient (Column column) (equation_at column_equations e) place
-unfolding column_agrees
-column_agrees-at column e count place all lt = agree_below_at (λ place. bit_at (sum_number 0 place) (4 * column + (3 - e)) == 1) (coefficient (Column column) (equation_at column_equations e)) count place all lt
-
-column_right : (column e : ℕ) → column < 15 → e < 4 → column_agrees column e 196 ≡ true
-column_right column e lt e_lt =
-    let of_column : column ≡ (4 * column + e) / 4 = omega arith in
-    let of_equation : e ≡ (4 * column + e) % 4 = omega arith in
-    (λ i. column_agrees (of_column i) (of_equation i) 196)
-    ∙ agree_below_at (λ n. column_agrees (n / 4) (n % 4) 196) (λ _. true) 60 (4 * column + e) columns_right (omega arith)
-
-unfoldable row_agrees : ℕ → ℕ → ℕ → Bool
-row_agrees row e count = agree_below (λ place. bit_at (sum_number 1 place) (4 * row + (3 - e)) == 1) (coefficient (Row row) (equation_at row_equations e)) count
-
-rows_right : agree_below (λ n. row_agrees (n / 4) (n % 4) 196) (λ _. true) 52 ≡ true
-unfolding row_agrees row_equations sum_number
+rows_right : agree_in_fours (bit_of 1) (λ row e. coefficient (Row row) (equation_at row_equations e)) 196 13 ≡ true
+unfolding agree_in_fours agree_in row_equations sum_number
 rows_right = refl
 
-row_agrees-at : (row e count place : ℕ) → row_agrees row e count ≡ true → place < count
-    → (bit_at (sum_number 1 place) (4 * row + (3 - e)) == 1) ≡ coefficient (Row row) (equation_at row_equations e) place
-unfolding row_agrees
-row_agrees-at row e count place all lt = agree_below_at (λ place. bit_at (sum_number 1 place) (4 * row + (3 - e)) == 1) (coefficient (Row row) (equation_at row_equations e)) count place all lt
+pub column_bit : (column e place : ℕ) → column < 15 → e < 4 → place < 196 →
+    (bit_at (sum_number 0 place) (4 * column + (3 - e)) == 1) ≡ coefficient (Column column) (equation_at column_equations e) place
+column_bit column e place lt e_lt place_lt =
+    agree_in_fours-at (bit_of 0) (λ column e. coefficient (Column column) (equation_at column_equations e)) 196 15
+    column e place columns_right lt e_lt place_lt
 
-row_right : (row e : ℕ) → row < 13 → e < 4 → row_agrees row e 196 ≡ true
-row_right row e lt e_lt =
-    let of_row : row ≡ (4 * row + e) / 4 = omega arith in
-    let of_equation : e ≡ (4 * row + e) % 4 = omega arith in
-    (λ i. row_agrees (of_row i) (of_equation i) 196)
-    ∙ agree_below_at (λ n. row_agrees (n / 4) (n % 4) 196) (λ _. true) 52 (4 * row + e) rows_right (omega arith)
-
--- a bit of what a place adds to the columns, or to the rows, is the place's coefficient in an equation
-pub column_bit : (column e place : ℕ) → column < 15 → e < 4 → place < 196 → (bit_at (sum_number 0 place) (4 * column + (3 - e)) == 1) ≡ coefficient (Column column) (equation_at column_equations e) place
-column_bit column e place lt e_lt place_lt = column_agrees-at column e 196 place (column_right column e lt e_lt) place_lt
-
-pub row_bit : (row e place : ℕ) → row < 13 → e < 4 → place < 196 → (bit_at (sum_number 1 place) (4 * row + (3 - e)) == 1) ≡ coefficient (Row row) (equation_at row_equations e) place
-row_bit row e place lt e_lt place_lt = row_agrees-at row e 196 place (row_right row e lt e_lt) place_lt
+pub row_bit : (row e place : ℕ) → row < 13 → e < 4 → place < 196 →
+    (bit_at (sum_number 1 place) (4 * row + (3 - e)) == 1) ≡ coefficient (Row row) (equation_at row_equations e) place
+row_bit row e place lt e_lt place_lt =
+    agree_in_fours-at (bit_of 1) (λ row e. coefficient (Row row) (equation_at row_equations e)) 196 13
+    row e place rows_right lt e_lt place_lt
 
 pub line_place-lt : (line : GridLine) (k : ℕ) → line_place line k < 196
 line_place-lt (Row row) k = omega arith
@@ -172,22 +142,18 @@ rows-lt bit = added-lt bit (sum_number 1) 52 196 row_number-lt
 
 -- ---- information
 
--- at the places below `count`, one bit of the number that a place adds is 1 only at the place of the information bit
-unfoldable information_agrees : ℕ → ℕ → Bool
-information_agrees k count = agree_below (λ place. bit_at (sum_number (2 + k / 64) place) (63 - k % 64) == 1) (λ place. place_of ((k + 3) / 11) ((k + 3) % 11) == place) count
+-- one bit of the number that a place adds is 1 only at the place of the information bit
+abbrev adds_bit : ℕ → ℕ → Bool
+adds_bit k place = bit_at (sum_number (2 + k / 64) place) (63 - k % 64) == 1
 
-information_right : agree_below (λ k. information_agrees k 196) (λ _. true) 96 ≡ true
-unfolding information_agrees sum_number
+information_right : agree_in adds_bit (λ k place. place_of ((k + 3) / 11) ((k + 3) % 11) == place) 196 96 ≡ true
+unfolding agree_in sum_number
 information_right = refl
 
-information_agrees-at : (k count place : ℕ) → information_agrees k count ≡ true → place < count
-    → (bit_at (sum_number (2 + k / 64) place) (63 - k % 64) == 1) ≡ (place_of ((k + 3) / 11) ((k + 3) % 11) == place)
-unfolding information_agrees
-information_agrees-at k count place all lt =
-    agree_below_at (λ place. bit_at (sum_number (2 + k / 64) place) (63 - k % 64) == 1) (λ place. place_of ((k + 3) / 11) ((k + 3) % 11) == place) count place all lt
-
-pub information_bit : (k place : ℕ) → k < 96 → place < 196 → (bit_at (sum_number (2 + k / 64) place) (63 - k % 64) == 1) ≡ (place_of ((k + 3) / 11) ((k + 3) % 11) == place)
-information_bit k place lt place_lt = information_agrees-at k 196 place (agree_below_at (λ k. information_agrees k 196) (λ _. true) 96 k information_right lt) place_lt
+pub information_bit : (k place : ℕ) → k < 96 → place < 196 →
+    (bit_at (sum_number (2 + k / 64) place) (63 - k % 64) == 1) ≡ (place_of ((k + 3) / 11) ((k + 3) % 11) == place)
+information_bit k place lt place_lt =
+    agree_in-at adds_bit (λ k place. place_of ((k + 3) / 11) ((k + 3) % 11) == place) 196 96 k place information_right lt place_lt
 
 two_words : (f : ℕ → ℕ) (n : ℕ) → n < 2 → get_or (f 2 ∷ f 3 ∷ []) n 0 ≡ f (2 + n)
 two_words f zero lt = refl

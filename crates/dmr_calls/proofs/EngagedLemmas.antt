@@ -1,6 +1,6 @@
 -- A radio is engaged exactly if it is a party to a call, an ask or a line.
-use Rattle.std.proofs.Common.{◌≡◌, ℕ, List, [], ◌∷◌, Bool, true, false, refl, ◌∙◌}
-use Rattle.std.specs.Prelude.{◌||◌, Option, Some, None, find, is_some, option_map, if◌then◌else◌}
+use Rattle.std.proofs.Common.{◌≡◌, ℕ, List, [], ◌∷◌, Bool, refl, ◌∙◌, arith}
+use Rattle.std.specs.Prelude.{◌||◌, Option, Some, None, find, is_some, option_map}
 use Rattle.std.specs.List.{list_any}
 use Rattle.std.specs.Option.{option_or}
 use Rattle.dmr_calls.specs.declared.ask.ActiveAsk.{ActiveAsk}
@@ -12,11 +12,7 @@ use Rattle.dmr_calls.specs.Engaged.{is_party_to_call, is_party_to_ask, is_party_
 -- an element passes a test exactly if one that passes is found
 some_found : {X : Type 0} (test : X → Bool) (xs : List X) → is_some (find test xs) ≡ list_any test xs
 some_found test [] = refl
-some_found test (x ∷ xs) = by_first (test x) (some_found test xs)
-  where
-    by_first : (b : Bool) → is_some (find test xs) ≡ list_any test xs → is_some (if b then Some x else find test xs) ≡ (b || list_any test xs)
-    by_first true same = refl
-    by_first false same = same
+some_found test (x ∷ xs) = let more = some_found test xs in grind arith
 
 -- an element is found exactly if it is found in another form
 some_mapped : {X Y : Type 0} (f : X → Y) (o : Option X) → is_some (option_map f o) ≡ is_some o
@@ -34,7 +30,13 @@ pub some_engaged : (now : ActiveLists) (radio : ℕ) → is_some (engagement_of 
 some_engaged now radio =
     let calls = find (is_party_to_call radio) now.calls in
     let asks = find (is_party_to_ask radio) now.asks in
-    let call : is_some (option_map CallOf (call_of now.calls radio)) ≡ list_any (is_party_to_call radio) now.calls = some_mapped CallOf (call_of now.calls radio) ∙ some_mapped (λ (s : ActiveCall). s.call) calls ∙ some_found (is_party_to_call radio) now.calls in
-    let ask : is_some (option_map AskOf (ask_with now.asks radio)) ≡ list_any (is_party_to_ask radio) now.asks = some_mapped AskOf (ask_with now.asks radio) ∙ some_mapped (λ (a : ActiveAsk). a.ask) asks ∙ some_found (is_party_to_ask radio) now.asks in
-    let line : is_some (option_map LineOf (line_with now.lines radio)) ≡ list_any (is_party_to_line radio) now.lines = some_mapped LineOf (line_with now.lines radio) ∙ some_found (is_party_to_line radio) now.lines in
-    some_of_three (option_map CallOf (call_of now.calls radio)) (option_map AskOf (ask_with now.asks radio)) (option_map LineOf (line_with now.lines radio)) ∙ cc (call, ask, line)
+    let call : is_some (option_map CallOf (call_of now.calls radio)) ≡ list_any (is_party_to_call radio) now.calls =
+    some_mapped CallOf (call_of now.calls radio) ∙ some_mapped (λ (s : ActiveCall). s.call) calls
+    ∙ some_found (is_party_to_call radio) now.calls in
+    let ask : is_some (option_map AskOf (ask_with now.asks radio)) ≡ list_any (is_party_to_ask radio) now.asks =
+    some_mapped AskOf (ask_with now.asks radio) ∙ some_mapped (λ (a : ActiveAsk). a.ask) asks
+    ∙ some_found (is_party_to_ask radio) now.asks in
+    let line : is_some (option_map LineOf (line_with now.lines radio)) ≡ list_any (is_party_to_line radio) now.lines =
+    some_mapped LineOf (line_with now.lines radio) ∙ some_found (is_party_to_line radio) now.lines in
+    some_of_three (option_map CallOf (call_of now.calls radio)) (option_map AskOf (ask_with now.asks radio))
+    (option_map LineOf (line_with now.lines radio)) ∙ cc (call, ask, line)

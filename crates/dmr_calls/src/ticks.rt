@@ -22,21 +22,21 @@ fn ask_after_tick(asking: ActiveAsk) -> ActiveAsk
 }
 
 /// A call after one more tick.
-fn call_after_tick(standing: ActiveCall) -> ActiveCall
-    ensures { result ≡ counted_of standing }
+fn call_after_tick(active_call: ActiveCall) -> ActiveCall
+    ensures { result ≡ counted_of active_call }
 {
     ActiveCall {
-        call: standing.call,
-        age: standing.age.saturating_add(1),
-        quiet: standing.quiet.saturating_add(1),
+        call: active_call.call,
+        age: active_call.age.saturating_add(1),
+        quiet: active_call.quiet.saturating_add(1),
     }
 }
 
 /// Reports whether a call is on a slot.
-fn is_on(standing: &ActiveCall, slot: &Slot) -> bool
-    ensures { result ≡ is_slot standing.now.call.slot slot.now }
+fn is_on(active_call: &ActiveCall, slot: &Slot) -> bool
+    ensures { result ≡ is_slot active_call.now.call.slot slot.now }
 {
-    standing.call.slot == *slot
+    active_call.call.slot == *slot
 }
 
 /// Adds one tick to each ask.
@@ -54,8 +54,8 @@ pub fn age_calls(calls: &mut KeyedTable<ActiveCall, MOST_CALLS>)
     ensures { calls.new ≡ map counted_of calls.old }
 {
     for place in 0..calls.len() {
-        let standing = calls.as_slice()[place];
-        calls.replace(place, call_after_tick(standing));
+        let active_call = calls.as_slice()[place];
+        calls.replace(place, call_after_tick(active_call));
     }
 }
 
@@ -64,12 +64,12 @@ pub fn mark_active(calls: &mut KeyedTable<ActiveCall, MOST_CALLS>, slot: &Slot)
     ensures { calls.new ≡ map (marked_of slot.now) calls.old }
 {
     for place in 0..calls.len() {
-        let standing = calls.as_slice()[place];
+        let active_call = calls.as_slice()[place];
         // The other calls are not written back: that costs more than the comparison of a slot.
-        if is_on(&standing, slot) {
+        if is_on(&active_call, slot) {
             let active = ActiveCall {
                 quiet: 0,
-                ..standing
+                ..active_call
             };
             calls.replace(place, active);
         }

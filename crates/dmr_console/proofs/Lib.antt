@@ -1,6 +1,6 @@
 pub mod WordLemmas
 pub mod LineLemmas
 pub mod ConsoleLaws
-mod CommandCases
+mod GrammarLemmas
 mod LineCases
 mod TextCases

@@ -3,4 +3,5 @@ pub mod Lines
 pub mod Steps
 pub mod Words
 pub mod Commands
+pub mod Grammar
 pub mod Texts

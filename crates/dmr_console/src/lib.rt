@@ -13,7 +13,9 @@ mod printing;
 mod rows;
 mod words;
 
-pub use laws::{limits_are_stated, lines_in_any_cutting, lines_precede_their_ends};
+pub use laws::{
+    grammar_is_stated, limits_are_stated, lines_in_any_cutting, lines_precede_their_ends,
+};
 pub use line_cutter::{LONGEST_LINE, LineCutter, LineStep};
 pub use parsing::parse;
 pub use printing::{LONGEST_TEXT, line_too_long, print, unknown_command};

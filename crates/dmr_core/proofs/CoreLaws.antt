@@ -15,7 +15,8 @@ pub use Rattle.dmr_core.proofs.PollSizes.{two_at_a_poll}
 pub use Rattle.dmr_core.proofs.OneLegalJournal.{journal_is_legal}
 
 -- a legal journal from sound facts, with a plan that is accepted
-module _ (plan : Settings) (facts : Facts) (journal : List Entry) (accepted : IsPlan plan) (sound : IsSound plan facts) (legal : IsLegal plan facts journal) where
+module _ (plan : Settings) (facts : Facts) (journal : List Entry) (accepted : IsPlan plan) (sound : IsSound plan facts)
+    (legal : IsLegal plan facts journal) where
   pub each_begins_on_free : Throughout plan facts BeginsOnFree journal
   each_begins_on_free = throughout plan facts BeginsOnFree (begins_on_free plan) journal (plan_known plan accepted) sound legal
 
@@ -26,4 +27,5 @@ module _ (plan : Settings) (facts : Facts) (journal : List Entry) (accepted : Is
   each_quiet_after_reset carrier there = quiet_after_reset plan facts carrier journal (plan_known plan accepted) there sound legal
 
   pub each_sends_own : Throughout plan facts (SendsOwn plan) journal
-  each_sends_own = throughout plan facts (SendsOwn plan) (sends_own plan (plan_known plan accepted)) journal (plan_known plan accepted) sound legal
+  each_sends_own =
+      throughout plan facts (SendsOwn plan) (sends_own plan (plan_known plan accepted)) journal (plan_known plan accepted) sound legal

@@ -24,8 +24,11 @@ each_is : (f : Facts) (acts : List Act) → each f acts ≡ fold facts_after_act
 each_is f [] = refl
 each_is f (act ∷ acts) = each_is (facts_after_act f act) acts
 
-pub facts_after-step : (plan : Settings) (facts : Facts) (entry : Entry) (earlier : List Entry) → facts_after plan facts (entry ∷ earlier) ≡ fold facts_after_act (facts_after_event plan (facts_after plan facts earlier) entry.event) entry.acts.list
+pub facts_after-step : (plan : Settings) (facts : Facts) (entry : Entry) (earlier : List Entry) →
+    facts_after plan facts (entry ∷ earlier) ≡ fold facts_after_act (facts_after_event plan (facts_after plan facts earlier) entry.event)
+    entry.acts.list
 facts_after-step plan facts entry earlier = each_is (facts_after_event plan (facts_after plan facts earlier) entry.event) entry.acts.list
 
-pub facts_after-entry : (plan : Settings) (facts : Facts) (entry : Entry) → facts_after plan facts (entry ∷ []) ≡ fold facts_after_act (facts_after_event plan facts entry.event) entry.acts.list
+pub facts_after-entry : (plan : Settings) (facts : Facts) (entry : Entry) →
+    facts_after plan facts (entry ∷ []) ≡ fold facts_after_act (facts_after_event plan facts entry.event) entry.acts.list
 facts_after-entry plan facts entry = each_is (facts_after_event plan facts entry.event) entry.acts.list

@@ -38,3 +38,4 @@ mod EqualityLemmas
 pub mod ConsoleLemmas
 pub mod PollSizes
 pub mod CoreLaws
+pub mod CommandLaws

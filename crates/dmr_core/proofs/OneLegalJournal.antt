@@ -15,14 +15,18 @@ journal_is_legal plan facts (event ∷ earlier) = (refl, journal_is_legal plan f
 abbrev entered : Settings → Event → Facts → Acts → Facts
 entered plan event facts acts = facts_after plan facts (record { actor = 0; event = event; acts = acts } ∷ [])
 
-same_facts : (plan : Settings) (facts : Facts) (journal : List Entry) → IsLegal plan facts journal → facts_after plan facts journal ≡ facts_after plan facts (journal_of plan facts (events_of journal))
+same_facts : (plan : Settings) (facts : Facts) (journal : List Entry) → IsLegal plan facts journal →
+    facts_after plan facts journal ≡ facts_after plan facts (journal_of plan facts (events_of journal))
 same_facts plan facts [] h = refl
 same_facts plan facts (entry ∷ earlier) h =
     ap (λ (acts : Acts). entered plan entry.event (facts_after plan facts earlier) acts) h.0
     ∙ ap (λ (f : Facts). entered plan entry.event f (answer_after_entries plan f [] entry.event)) (same_facts plan facts earlier h.1)
 
-pub same_answers : (plan : Settings) (facts : Facts) (journal : List Entry) → IsLegal plan facts journal → answers_of journal ≡ answers_of (journal_of plan facts (events_of journal))
+pub same_answers : (plan : Settings) (facts : Facts) (journal : List Entry) → IsLegal plan facts journal →
+    answers_of journal ≡ answers_of (journal_of plan facts (events_of journal))
 same_answers plan facts [] h = refl
 same_answers plan facts (entry ∷ earlier) h =
-    ap (λ (acts : Acts). acts ∷ answers_of earlier) (h.0 ∙ ap (λ (f : Facts). answer_after_entries plan f [] entry.event) (same_facts plan facts earlier h.1))
-    ∙ ap (λ (rest : List Acts). answer_after_entries plan (facts_after plan facts (journal_of plan facts (events_of earlier))) [] entry.event ∷ rest) (same_answers plan facts earlier h.1)
+    ap (λ (acts : Acts). acts ∷ answers_of earlier)
+    (h.0 ∙ ap (λ (f : Facts). answer_after_entries plan f [] entry.event) (same_facts plan facts earlier h.1))
+    ∙ ap (λ (rest : List Acts). answer_after_entries plan (facts_after plan facts (journal_of plan facts (events_of earlier))) []
+    entry.event ∷ rest) (same_answers plan facts earlier h.1)

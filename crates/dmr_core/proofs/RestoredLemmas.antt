@@ -1,10 +1,11 @@
 -- A site that starts with radios registered.
-use Rattle.std.proofs.Common.{◌≡◌, ◌≢◌, ◌≤◌, ◌<◌, ℕ, suc, List, [], ◌∷◌, ◌++◌, Bool, true, false, refl, sym, subst, ◌∙◌, ap, arith, length, length-append, append_assoc, eqb-true}
-use Rattle.std.specs.Prelude.{fold, filter, cond, ◌==◌, ◌||◌}
-use mathlib.Core.Bool.{false≢true}
-use Rattle.std.specs.List.{All, AllPairs, Contains}
+use Rattle.std.proofs.Common.{◌≡◌, ◌≢◌, ◌≤◌, ◌<◌, ℕ, List, [], ◌∷◌, ◌++◌, Bool, true, false, refl, sym, subst, ◌∙◌, ap, arith, length, length-append, append_assoc, eqb-true, get_or}
+use Rattle.std.specs.Prelude.{fold, filter, cond, ◌==◌}
+use Rattle.std.specs.List.{All, Contains}
 use Rattle.std.proofs.Math.Seq.{get_or-append_seam}
+use Rattle.std.proofs.lemmas.Bool.{false_from_ne_true}
 use Rattle.std.proofs.lemmas.Bool.Decides.{nat_tests}
+use Rattle.std.proofs.lemmas.List.Folds.{Any-from_list_any}
 use Rattle.std.proofs.lemmas.List.{append-nil, get_or_append_left}
 use Rattle.std.proofs.lemmas.List.Elements.{All-push, All-head, All-tail, All-nil, filter_passes}
 use Rattle.std.proofs.lemmas.List.Kept.{AllPairs-filter}
@@ -12,7 +13,7 @@ use Rattle.dmr_plan.specs.declared.settings.Settings.{Settings}
 use Rattle.dmr_plan.specs.Plan.{lists_radio}
 use Rattle.dmr_registry.specs.Radios.{AreDistinct, is_registered_in, is_full, radios_after_join}
 use Rattle.dmr_core.specs.Restored.{restored, facts_with}
-use Rattle.dmr_core.specs.Sound.{IsSound}
+use Rattle.dmr_core.specs.Sound.{AreRadiosSound, IsSound}
 use Rattle.dmr_core.proofs.ListLemmas.{length-filter_le}
 use Rattle.dmr_core.proofs.NothingIsSound.{nothing_is_sound}
 
@@ -20,39 +21,13 @@ use Rattle.dmr_core.proofs.NothingIsSound.{nothing_is_sound}
 pub restored_is_sound : (plan : Settings) (radios : List ℕ) → AreDistinct radios → length radios ≤ 4096 → IsSound plan (facts_with radios)
 restored_is_sound plan radios distinct few =
     let nothing = nothing_is_sound plan in
-    record {
-      carriers = nothing.carriers;
-      slots = nothing.slots;
-      known = nothing.known;
-      apart = nothing.apart;
-      payload = nothing.payload;
-      quiet = nothing.quiet;
-      asks = nothing.asks;
-      lines = nothing.lines;
-      distinct = distinct;
-      parties = λ r k. absurd (omega arith);
-      called = nothing.called;
-      lined = nothing.lined;
-      once = nothing.once;
-      down = nothing.down;
-      elsewhere = nothing.elsewhere;
-      own = nothing.own;
-      few_calls = nothing.few_calls;
-      few_asks = nothing.few_asks;
-      few_lines = nothing.few_lines;
-      few_radios = few;
-      few_waiting = nothing.few_waiting;
-      ages = nothing.ages;
-      waits = nothing.waits;
-      noiseless = nothing.noiseless;
-      window = nothing.window;
-      counted = nothing.counted;
-      unfilled = nothing.unfilled;
-      unnamed = nothing.unnamed;
-    }
+    let registered : AreRadiosSound radios [] [] [] =
+    record { distinct = distinct; parties = λ r k. absurd (omega arith); once = λ r. omega arith; few = few } in
+    assumption registered
 
 -- a radio that joins, with what holds of each radio
-joined-each : (P : ℕ → Type 0) (held : List ℕ) (radio : ℕ) (is_there is_no_room : Bool) → All P held → P radio → All P (cond is_there held (cond is_no_room held (held ++ radio ∷ [])))
+joined-each : (P : ℕ → Type 0) (held : List ℕ) (radio : ℕ) (is_there is_no_room : Bool) → All P held → P radio →
+    All P (cond is_there held (cond is_no_room held (held ++ radio ∷ [])))
 joined-each P held radio true no_room each one = each
 joined-each P held radio false true each one = each
 joined-each P held radio false false each one = All-push P held radio each one
@@ -72,43 +47,37 @@ restored-listed plan radios =
 
 -- a radio that is registered is among the radios
 held_contains : (radios : List ℕ) (radio : ℕ) → is_registered_in radios radio ≡ true → Contains radios radio
-held_contains [] radio held = absurd (false≢true held)
-held_contains (r ∷ radios) radio held = by_first (r == radio) refl (held_contains radios radio) held
-  where
-    by_first : (b : Bool) → (r == radio) ≡ b → (is_registered_in radios radio ≡ true → Contains radios radio) → (b || is_registered_in radios radio) ≡ true → Contains (r ∷ radios) radio
-    by_first true same more held = (0, omega arith, eqb-true r radio same)
-    by_first false other more held = let there = more held in (suc there.0, omega (arith, there.1), there.2)
+held_contains radios radio held =
+    let a = Any-from_list_any (λ r. r == radio) radios held in
+    (a.0, a.2, subst (λ (x : ℕ). get_or radios a.0 x ≡ x) (eqb-true a.1 radio a.4) a.3)
 
 -- a radio that comes later in a list of distinct ones is not registered yet
 fresh : (held : List ℕ) (radio : ℕ) (radios : List ℕ) → AreDistinct (held ++ radio ∷ radios) → is_registered_in held radio ≡ false
-fresh held radio radios distinct = by_test (is_registered_in held radio) refl
-  where
-    not_there : Contains held radio → ⊥
-    not_there there =
-        let at = get_or_append_left held (radio ∷ radios) radio there.0 there.1 in
-        let last = get_or-append_seam held radio radios radio in
-        distinct there.0 (length held) radio there.1 (omega (arith, length-append held (radio ∷ radios))) (at ∙ there.2 ∙ sym last)
-
-    by_test : (b : Bool) → is_registered_in held radio ≡ b → is_registered_in held radio ≡ false
-    by_test true is = absurd (not_there (held_contains held radio is))
-    by_test false is = is
+fresh held radio radios distinct = false_from_ne_true _ (λ is.
+    let there = held_contains held radio is in
+    let at = get_or_append_left held (radio ∷ radios) radio there.0 there.1 in
+    let last = get_or-append_seam held radio radios radio in
+    distinct there.0 (length held) radio there.1 (omega (arith, length-append held (radio ∷ radios))) (at ∙ there.2 ∙ sym last))
 
 not_full : (held : List ℕ) → length held < 4096 → is_full held ≡ false
 not_full held room = grind (arith, nat_tests)
 
 -- distinct radios for which there is room all join, in their order
-all_join : (held radios : List ℕ) → AreDistinct (held ++ radios) → length (held ++ radios) ≤ 4096 → fold radios_after_join held radios ≡ held ++ radios
+all_join : (held radios : List ℕ) → AreDistinct (held ++ radios) → length (held ++ radios) ≤ 4096 →
+    fold radios_after_join held radios ≡ held ++ radios
 all_join held [] distinct few = sym (append-nil held)
 all_join held (radio ∷ radios) distinct few =
     let same : (held ++ radio ∷ []) ++ radios ≡ held ++ radio ∷ radios = append_assoc held (radio ∷ []) radios in
     let room : length held < 4096 = omega (arith, length-append held (radio ∷ radios)) in
     let step : radios_after_join held radio ≡ held ++ radio ∷ [] = rw (fresh held radio radios distinct, not_full held room) refl in
     ap (λ (h : List ℕ). fold radios_after_join h radios) step
-    ∙ all_join (held ++ radio ∷ []) radios (subst (λ (xs : List ℕ). AreDistinct xs) (sym same) distinct) (subst (λ (xs : List ℕ). length xs ≤ 4096) (sym same) few)
+    ∙ all_join (held ++ radio ∷ []) radios (subst (λ (xs : List ℕ). AreDistinct xs) (sym same) distinct)
+    (subst (λ (xs : List ℕ). length xs ≤ 4096) (sym same) few)
     ∙ same
 
 -- if they are distinct and there is room, the radios are those that the plan lists, in their order
-pub restored-all : (plan : Settings) (radios : List ℕ) → AreDistinct radios → length radios ≤ 4096 → restored plan radios ≡ filter (lists_radio plan) radios
+pub restored-all : (plan : Settings) (radios : List ℕ) → AreDistinct radios → length radios ≤ 4096 →
+    restored plan radios ≡ filter (lists_radio plan) radios
 restored-all plan radios distinct few =
     all_join [] (filter (lists_radio plan) radios) (AllPairs-filter (λ a b. a ≢ b) (lists_radio plan) radios distinct)
     (omega (arith, length-filter_le (lists_radio plan) radios))

@@ -1,27 +1,15 @@
 -- Going round the places: how many are passed before the turn of a place.
 use Rattle.std.proofs.Common.{◌≡◌, ◌≢◌, ◌<◌, ◌≤◌, ◌+◌, ◌-◌, ◌⊎◌, inl, inr, ℕ, zero, suc, List, [], ◌∷◌, Bool, true, false, refl, sym, ◌∙◌, ap, arith, length, filter}
-use Rattle.std.specs.Prelude.{◌/◌, ◌%◌, cond, ◌&&◌, Some, find, option_map}
-use Rattle.std.specs.Option.{option_map_or}
-use Rattle.std.proofs.lemmas.Bool.{cases_lt}
+use Rattle.std.specs.Prelude.{cond, ◌&&◌}
+use Rattle.std.proofs.lemmas.Bool.{and_parts, and_right, cases_Bool, cases_lt, false_from_ne_true}
 use Rattle.dmr_pdu.specs.declared.slots.Slot.{Slot}
-use Rattle.dmr_calls.specs.declared.call.Call.{Call}
 use Rattle.dmr_calls.specs.declared.call.ActiveCall.{ActiveCall}
 use Rattle.dmr_calls.specs.Calls.{is_slot}
 use Rattle.dmr_pdu.specs.Slots.{place, slot_at}
 use Rattle.dmr_calls.specs.After.{is_group_at, IsNext, NonePass}
+use Rattle.dmr_calls.proofs.Laws.{place-slot_at, same_slot}
 use Rattle.dmr_core.specs.Turns.{talkgroup_calls}
-use Rattle.dmr_core.proofs.SlotsStaySound.{same_slot, true_false}
-
--- a slot is the one at its place
-pub slot_at-place : (slot : Slot) → slot.slot < 2 → slot_at (place slot) ≡ slot
-slot_at-place slot small =
-    let carrier : place slot / 2 ≡ slot.carrier = omega (arith, small) in
-    let number : place slot % 2 ≡ slot.slot = omega (arith, small) in
-    λ i. record { carrier = carrier i; slot = number i }
-
--- a place is that of its slot
-place-slot_at : (k : ℕ) → place (slot_at k) ≡ k
-place-slot_at k = omega arith
+use Rattle.dmr_core.proofs.ListLemmas.{true_false}
 
 -- 1 if the test passes, else 0
 abbrev pub one : Bool → ℕ
@@ -72,22 +60,22 @@ IsWithin g from t d =
 
 pub at_first : (g : ℕ → Bool) (from t : ℕ) → t < 32 → IsWithin g from t (between g 0 32)
 unfolding counted
-at_first g from t small = either (cases_lt t from)
+at_first g from t small = elim (cases_lt t from) [
+  | inl above ↦ inr (above, far (cases_lt 32 from) above)
+  | inr low ↦ (
+      let before = parts g 0 from 32 (omega arith) (omega (arith, low, small)) in
+      let after = parts g from (t + 1) 32 (omega (arith, low)) (omega (arith, small)) in
+      inl (low, omega (arith, before, after))
+      )
+]
   where
-    far : (from ≤ 32) ⊎ (32 < from) → t < from → between g from 32 + between g 0 (t + 1) ≤ between g 0 32
-    far (inl near) above = omega (arith, parts g 0 (t + 1) 32 (omega arith) (omega (arith, small)), parts g (t + 1) from 32 (omega (arith, above)) near)
-    far (inr beyond) above =
+    far : (32 < from) ⊎ (from ≤ 32) → t < from → between g from 32 + between g 0 (t + 1) ≤ between g 0 32
+    far (inl beyond) above =
         let none : 32 - from ≡ 0 = omega (arith, beyond) in
         let nothing : between g from 32 ≡ 0 = ap (counted g from) none in
         omega (arith, nothing, parts g 0 (t + 1) 32 (omega arith) (omega (arith, small)))
-
-    turned : (32 < from) ⊎ (from ≤ 32) → (from ≤ 32) ⊎ (32 < from)
-    turned (inl x) = inr x
-    turned (inr x) = inl x
-
-    either : (t < from) ⊎ (from ≤ t) → IsWithin g from t (between g 0 32)
-    either (inl above) = inr (above, far (turned (cases_lt 32 from)) above)
-    either (inr low) = inl (low, omega (arith, parts g 0 from 32 (omega arith) (omega (arith, low, small)), parts g from (t + 1) 32 (omega (arith, low)) (omega (arith, small))))
+    far (inr near) above =
+        omega (arith, parts g 0 (t + 1) 32 (omega arith) (omega (arith, small)), parts g (t + 1) from 32 (omega (arith, above)) near)
 
 pub some_left : (g : ℕ → Bool) (from t d : ℕ) → g t ≡ true → IsWithin g from t d → 1 ≤ d
 some_left g from t d h (inl low) = omega (arith, reached g from t low.0 h, low.1)
@@ -95,33 +83,46 @@ some_left g from t d h (inr high) = omega (arith, reached g 0 t (omega arith) h,
 
 -- one that passes is not before the first that does
 not_before : (g : ℕ → Bool) (from t at : ℕ) → g t ≡ true → from ≤ t → NonePass g from at → at ≤ t
-not_before g from t at h low none = either (cases_lt t at)
-  where
-    either : (t < at) ⊎ (at ≤ t) → at ≤ t
-    either (inl early) = true_false _ h (none t low early)
-    either (inr late) = late
+not_before g from t at h low none = elim (cases_lt t at) [ inl early ↦ true_false _ h (none t low early) | inr late ↦ late ]
 
 -- at most, and not the same
 less : (a b : ℕ) → a ≤ b → a ≢ b → a < b
-less a b low other = either (cases_lt a b)
-  where
-    either : (a < b) ⊎ (b ≤ a) → a < b
-    either (inl below) = below
-    either (inr above) = absurd (other (omega (arith, low, above)))
+less a b low other = elim (cases_lt a b) [ inl below ↦ below | inr above ↦ absurd (other (omega (arith, low, above))) ]
 
 -- when it is another's turn, the place is nearer to its own
-pub nearer : (g : ℕ → Bool) (from t d at : ℕ) → t < 32 → g t ≡ true → at ≢ t → IsNext g from at → IsWithin g from t d → IsWithin g (at + 1) t (d - 1)
+pub nearer : (g : ℕ → Bool) (from t d at : ℕ) → t < 32 → g t ≡ true → at ≢ t → IsNext g from at → IsWithin g from t d →
+    IsWithin g (at + 1) t (d - 1)
 nearer g from t d at small h other (inl first) (inl low) =
     let near : at ≤ t = not_before g from t at h low.0 first.before in
     let before : at < t = less at t near other in
-    inl (omega (arith, before), omega (arith, low.1, parts g from (at + 1) (t + 1) (omega (arith, first.reached)) (omega (arith, before)), reached g from at first.reached first.passing))
+    inl (
+      omega (arith, before),
+      omega (
+        arith,
+        low.1,
+        parts g from (at + 1) (t + 1) (omega (arith, first.reached)) (omega (arith, before)),
+        reached g from at first.reached first.passing,
+      ),
+    )
 nearer g from t d at small h other (inl first) (inr high) =
-    inr (omega (arith, first.reached, high.0), omega (arith, high.1, parts g from (at + 1) 32 (omega (arith, first.reached)) (omega (arith, first.within)), reached g from at first.reached first.passing))
+    inr (
+      omega (arith, first.reached, high.0),
+      omega (
+        arith,
+        high.1,
+        parts g from (at + 1) 32 (omega (arith, first.reached)) (omega (arith, first.within)),
+        reached g from at first.reached first.passing,
+      ),
+    )
 nearer g from t d at small h other (inr around) (inl low) = true_false _ h (around.0 t low.0 small)
 nearer g from t d at small h other (inr around) (inr high) =
     let near : at ≤ t = not_before g 0 t at h (omega arith) around.1.before in
     let before : at < t = less at t near other in
-    inl (omega (arith, before), omega (arith, high.1, parts g 0 (at + 1) (t + 1) (omega arith) (omega (arith, before)), reached g 0 at (omega arith) around.1.passing))
+    inl (
+      omega (arith, before),
+      omega
+          (arith, high.1, parts g 0 (at + 1) (t + 1) (omega arith) (omega (arith, before)), reached g 0 at (omega arith) around.1.passing),
+    )
 
 -- at most as many places have a talkgroup call as talkgroup calls are active
 none_passes : (g : ℕ → Bool) (from n : ℕ) → ((k : ℕ) → from ≤ k → g k ≡ false) → counted g from n ≡ 0
@@ -135,17 +136,17 @@ none_passes g from (suc n) none =
 single : (g : ℕ → Bool) (at from n : ℕ) → ((k : ℕ) → g k ≡ true → k ≡ at) → counted g from n ≤ 1
 unfolding counted
 single g at from zero only = omega arith
-single g at from (suc n) only = either (g from) refl (single g at (from + 1) n only)
-  where
-    others : g from ≡ true → (k : ℕ) → from + 1 ≤ k → (b : Bool) → g k ≡ b → b ≡ false
-    others e k low true t = absurd (omega (arith, only from e, only k t, low))
-    others e k low false t = refl
+single g at from (suc n) only = elim (cases_Bool (g from)) [
+  | inl e ↦ (
+      let others : (k : ℕ) → from + 1 ≤ k → g k ≡ false = λ k low. false_from_ne_true _ (λ t. omega (arith, low, only k t, only from e)) in
+      let none = none_passes g (from + 1) n others in
+      rw e (omega arith)
+      )
+  | inr e ↦ rw e (omega (arith, single g at (from + 1) n only))
+]
 
-    either : (b : Bool) → g from ≡ b → counted g (from + 1) n ≤ 1 → one b + counted g (from + 1) n ≤ 1
-    either true e more = let none : counted g (from + 1) n ≡ 0 = none_passes g (from + 1) n (λ k low. others e k low (g k) refl) in omega (arith, none)
-    either false e more = omega (arith, more)
-
-sums : (g h f : ℕ → Bool) (from n : ℕ) → ((k : ℕ) → one (g k) ≤ one (h k) + one (f k)) → counted g from n ≤ counted h from n + counted f from n
+sums : (g h f : ℕ → Bool) (from n : ℕ) → ((k : ℕ) → one (g k) ≤ one (h k) + one (f k)) →
+    counted g from n ≤ counted h from n + counted f from n
 unfolding counted
 sums g h f from zero fewer = omega arith
 sums g h f from (suc n) fewer = omega (arith, fewer from, sums g h f (from + 1) n fewer)
@@ -154,33 +155,28 @@ sums g h f from (suc n) fewer = omega (arith, fewer from, sums g h f (from + 1) 
 on_place : (s : Slot) (k : ℕ) → is_slot s (slot_at k) ≡ true → k ≡ place s
 on_place s k h = sym (place-slot_at k) ∙ sym (ap place (same_slot s (slot_at k) h))
 
-group_of : (s : ActiveCall) (calls : List ActiveCall) (k : ℕ) → one (is_group_at (s ∷ calls) k) ≤ one (is_slot s.call.slot (slot_at k) && s.call.group) + one (is_group_at calls k)
-group_of s calls k = either (is_slot s.call.slot (slot_at k)) s.call.group
-  where
-    either : (b c : Bool) → one (option_map_or (λ (call : Call). call.group) (option_map (λ (x : ActiveCall). x.call) (cond b (Some s) (find (λ x. is_slot x.call.slot (slot_at k)) calls))) false) ≤ one (b && s.call.group) + one (is_group_at calls k)
-    either true c = omega arith
-    either false c = omega arith
+group_of : (s : ActiveCall) (calls : List ActiveCall) (k : ℕ)
+    → one (is_group_at (s ∷ calls) k) ≤ one (is_slot s.call.slot (slot_at k) && s.call.group) + one (is_group_at calls k)
+group_of s calls k = grind arith
 
-here_or_none : (s : ActiveCall) (b : Bool) → s.call.group ≡ b → counted (λ k. is_slot s.call.slot (slot_at k) && s.call.group) 0 32 ≤ one b
-here_or_none s true e = single (λ k. is_slot s.call.slot (slot_at k) && s.call.group) (place s.call.slot) 0 32 (λ k h. on_place s.call.slot k (first (is_slot s.call.slot (slot_at k)) s.call.group h))
-  where
-    first : (b c : Bool) → (b && c) ≡ true → b ≡ true
-    first true c h = refl
-    first false c h = h
-here_or_none s false e =
-    let none : counted (λ k. is_slot s.call.slot (slot_at k) && s.call.group) 0 32 ≡ 0 = none_passes (λ k. is_slot s.call.slot (slot_at k) && s.call.group) 0 32 (λ k low. last (is_slot s.call.slot (slot_at k)) s.call.group e) in
-    omega (arith, none)
-  where
-    last : (b c : Bool) → c ≡ false → (b && c) ≡ false
-    last true c h = h
-    last false c h = refl
+here_or_none : (s : ActiveCall) → counted (λ k. is_slot s.call.slot (slot_at k) && s.call.group) 0 32 ≤ one s.call.group
+here_or_none s = elim (cases_Bool s.call.group) [
+  | inl e ↦ rw e (single (λ k. is_slot s.call.slot (slot_at k) && true) (place s.call.slot) 0 32
+      (λ k h. on_place s.call.slot k (and_parts _ _ h).0))
+  | inr e ↦ (
+      let none = none_passes (λ k. is_slot s.call.slot (slot_at k) && s.call.group) 0 32 (λ k low. and_right _ _ e) in
+      omega (arith, none)
+      )
+]
 
 pub few_places : (calls : List ActiveCall) → between (is_group_at calls) 0 32 ≤ talkgroup_calls calls
 few_places [] = let none : counted (is_group_at []) 0 32 ≡ 0 = none_passes (is_group_at []) 0 32 (λ k low. refl) in omega (arith, none)
 few_places (s ∷ calls) =
-    let both : counted (is_group_at (s ∷ calls)) 0 32 ≤ counted (λ k. is_slot s.call.slot (slot_at k) && s.call.group) 0 32 + counted (is_group_at calls) 0 32 = sums (is_group_at (s ∷ calls)) (λ k. is_slot s.call.slot (slot_at k) && s.call.group) (is_group_at calls) 0 32 (group_of s calls) in
-    omega (arith, both, here_or_none s s.call.group refl, few_places calls, more s.call.group)
+    let here : ℕ → Bool = λ k. is_slot s.call.slot (slot_at k) && s.call.group in
+    let both = sums (is_group_at (s ∷ calls)) here (is_group_at calls) 0 32 (group_of s calls) in
+    omega (arith, both, here_or_none s, few_places calls, more s.call.group)
   where
-    more : (b : Bool) → length (cond b (s ∷ filter (λ (x : ActiveCall). x.call.group) calls) (filter (λ (x : ActiveCall). x.call.group) calls)) ≡ one b + talkgroup_calls calls
-    more true = omega arith
-    more false = omega arith
+    more : (b : Bool) → length (cond b (s ∷ filter (λ (x : ActiveCall). x.call.group) calls)
+        (filter (λ (x : ActiveCall). x.call.group) calls))
+        ≡ one b + talkgroup_calls calls
+    more b = grind arith

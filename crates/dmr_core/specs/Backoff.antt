@@ -10,17 +10,17 @@ use Rattle.dmr_core.specs.declared.entry.Entry.{Entry}
 
 -- the event is the Up of the control carrier
 abbrev pub is_start : Settings → Event → Bool
-is_start plan (Up c) = c == plan.control
+is_start plan (Up c) = c == plan.lists.control
 is_start plan _ = false
 
 -- the event is a Poll of the control carrier
 abbrev pub is_poll : Settings → Event → Bool
-is_poll plan (Poll c) = c == plan.control
+is_poll plan (Poll c) = c == plan.lists.control
 is_poll plan _ = false
 
 -- 1 for a Noise on the control slot, else 0
 abbrev pub noise_in : Settings → Event → ℕ
-noise_in plan (Noise slot) = if is_control plan slot then 1 else 0
+noise_in plan (Noise slot) = if is_control plan.lists slot then 1 else 0
 noise_in plan _ = 0
 
 -- the count with one more event, when `polls` Polls may still be passed: nothing before an Up counts, nor before a Poll

@@ -8,12 +8,12 @@ use Rattle.dmr_core.specs.Sound.{total}
 
 -- 1 for an act that queues a PDU on the control slot, else 0
 abbrev pub on_control : Settings → Act → ℕ
-on_control plan (Queue slot pdu) = cond (is_control plan slot) 1 0
+on_control plan (Queue slot pdu) = cond (is_control plan.lists slot) 1 0
 on_control plan _ = 0
 
 -- 1 for an act that queues a PDU on another slot, else 0
 abbrev pub elsewhere : Settings → Act → ℕ
-elsewhere plan (Queue slot pdu) = cond (is_control plan slot) 0 1
+elsewhere plan (Queue slot pdu) = cond (is_control plan.lists slot) 0 1
 elsewhere plan _ = 0
 
 -- an answer has at most `most` acts; at most `control` of them queue a PDU on the control slot, and at most `others`

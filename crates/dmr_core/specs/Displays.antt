@@ -27,7 +27,7 @@ calls_on_carrier calls c =
 -- the state of a slot: the first that applies
 abbrev pub state_of : Settings → Facts → Slot → State
 state_of plan now slot =
-    if is_control plan slot then state.Control else
+    if is_control plan.lists slot then state.Control else
     if not (is_up now slot.carrier) then state.Down else
     if has_call_on now.calls slot then state.Call else
     if is_free plan now slot then state.Free else state.Waiting

@@ -53,7 +53,7 @@ same_as_before x y = x
 
 -- the plan has a carrier of this number
 abbrev pub has_carrier : Settings → ℕ → Bool
-has_carrier plan c = has_number_in plan.carriers c
+has_carrier plan c = has_number_in plan.lists.carriers c
 
 -- carriers up: Up opens if the plan has the carrier, Lost closes
 abbrev pub up_by_event : Settings → List Bool → Event → List Bool
@@ -69,8 +69,8 @@ registered_by_act radios _ = radios
 
 -- asks by event: the control carrier's Up and Lost close all; a Tick adds one to each waiting time, up to 65,535
 abbrev pub asks_by_event : Settings → List ActiveAsk → Event → List ActiveAsk
-asks_by_event plan asks (Up c) = if c == plan.control then [] else asks
-asks_by_event plan asks (Lost c) = if c == plan.control then [] else asks
+asks_by_event plan asks (Up c) = if c == plan.lists.control then [] else asks
+asks_by_event plan asks (Lost c) = if c == plan.lists.control then [] else asks
 asks_by_event plan asks Tick = map ask_after_tick asks
 asks_by_event plan asks _ = asks
 
@@ -82,8 +82,8 @@ asks_by_act asks _ = asks
 
 -- lines by event: the control carrier's Up and Lost close all
 abbrev pub lines_by_event : Settings → List Line → Event → List Line
-lines_by_event plan lines (Up c) = if c == plan.control then [] else lines
-lines_by_event plan lines (Lost c) = if c == plan.control then [] else lines
+lines_by_event plan lines (Up c) = if c == plan.lists.control then [] else lines
+lines_by_event plan lines (Lost c) = if c == plan.lists.control then [] else lines
 lines_by_event plan lines _ = lines
 
 -- lines by act: Lined opens, Unlined closes
@@ -122,10 +122,11 @@ outboxes_by_act boxes _ = boxes
 -- noise numbers: 32 zeros at the control carrier's Up, none at its Lost. Each of its Polls begins a new one, and a
 -- Noise on the control slot adds one to the newest, up to 15
 abbrev pub noise_by_event : Settings → List ℕ → Event → List ℕ
-noise_by_event plan noise (Up c) = if c == plan.control then noise_at_up else noise
-noise_by_event plan noise (Lost c) = if c == plan.control then [] else noise
-noise_by_event plan noise (Noise slot) = if is_control plan slot then with_noise noise else noise
-noise_by_event plan noise (Poll c) = if c == plan.control then with_poll noise else noise
+noise_by_event plan noise (Up c) = if c == plan.lists.control then noise_at_up else noise
+noise_by_event plan noise (Lost c) = if c == plan.lists.control then [] else noise
+noise_by_event plan noise (Noise slot) =
+    if is_control plan.lists slot then with_noise noise else noise
+noise_by_event plan noise (Poll c) = if c == plan.lists.control then with_poll noise else noise
 noise_by_event plan noise _ = noise
 
 -- the move of the control channel: an operator's `move` opens it, `stay` closes it
@@ -136,8 +137,8 @@ moving_by_event moving _ = moving
 
 -- Fills by event: 0 at Up and Lost of the control carrier
 abbrev pub fills_by_event : Settings → ℕ → Event → ℕ
-fills_by_event plan fills (Up c) = if c == plan.control then 0 else fills
-fills_by_event plan fills (Lost c) = if c == plan.control then 0 else fills
+fills_by_event plan fills (Up c) = if c == plan.lists.control then 0 else fills
+fills_by_event plan fills (Lost c) = if c == plan.lists.control then 0 else fills
 fills_by_event plan fills _ = fills
 
 -- Fills by act: each Fill adds one, modulo 4
@@ -147,8 +148,8 @@ fills_by_act fills _ = fills
 
 -- the slot of the last late entry, by event: Up and Lost of the control carrier close it
 abbrev pub late_by_event : Settings → Option NamedSlot → Event → Option NamedSlot
-late_by_event plan late (Up c) = if c == plan.control then None else late
-late_by_event plan late (Lost c) = if c == plan.control then None else late
+late_by_event plan late (Up c) = if c == plan.lists.control then None else late
+late_by_event plan late (Lost c) = if c == plan.lists.control then None else late
 late_by_event plan late _ = late
 
 -- the slot of the last late entry, by act: a Fill that is a grant to a talkgroup opens it

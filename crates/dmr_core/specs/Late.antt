@@ -13,7 +13,7 @@ use Rattle.dmr_core.specs.Facts.{Facts}
 abbrev pub carrier_on : Settings → ℕ → Option ℕ
 carrier_on plan channel =
     option_map (λ (row : CarrierRow). row.number)
-    (find (λ (row : CarrierRow). row.lpcn == channel) plan.carriers)
+    (find (λ (row : CarrierRow). row.lpcn == channel) plan.lists.carriers)
 
 -- the slot that a grant names, if the plan has its carrier
 abbrev pub slot_named : Settings → NamedSlot → Option Slot

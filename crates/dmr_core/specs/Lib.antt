@@ -1,4 +1,5 @@
 pub mod Limits
+pub mod CommandWords
 pub mod Facts
 pub mod Restored
 pub mod Words

@@ -31,7 +31,7 @@ pub record IsGrantOf (plan : Settings) (calls : List ActiveCall) (pdu : Pdu) : T
 
 -- the PDU, if it is a grant, is on the control slot and is that of an active call
 abbrev pub MayName : Settings → List ActiveCall → Slot → Pdu → Bool → Type 0
-MayName plan calls slot pdu true = (slot ≡ control_slot plan) × IsGrantOf plan calls pdu
+MayName plan calls slot pdu true = (slot ≡ control_slot plan.lists) × IsGrantOf plan calls pdu
 MayName plan calls slot pdu false = Unit {0}
 
 -- the late entry that a Fill is, if it is one
@@ -41,7 +41,7 @@ late_entry_of_fill pdu = if is_grant pdu then Some pdu else None
 -- a PDU may be sent as a Fill: the control carrier is up, and the PDU is the late entry if there is one and else not a
 -- grant. A grant is on the control slot, and that of an active call.
 pub record MayFill (plan : Settings) (now : Facts) (slot : Slot) (pdu : Pdu) : Type 0 where
-  pub up : is_up now plan.control ≡ true
+  pub up : is_up now plan.lists.control ≡ true
   pub names : MayName plan now.calls slot pdu (is_grant pdu)
   pub late : late_entry_of_fill pdu ≡ late_entry plan now
 
@@ -77,10 +77,10 @@ MayDo plan now (Fill slot pdu) = MayFill plan now slot pdu
 MayDo plan now (Joined r) = (is_registered now r ≡ false) × (length now.registered < most_radios)
 MayDo plan now (Left r) = engagements now.calls now.asks now.lines r ≡ 0
 MayDo plan now (Asked ask) =
-    (is_up now plan.control ≡ true) × (length (others_than ask.source now.asks) < most_asks)
+    (is_up now plan.lists.control ≡ true) × (length (others_than ask.source now.asks) < most_asks)
     × MayEngage plan now (others_than ask.source now.asks) false ask.source ask.target
 MayDo plan now (Lined l) =
-    (is_up now plan.control ≡ true) × (length now.lines < most_lines)
+    (is_up now plan.lists.control ≡ true) × (length now.lines < most_lines)
     × MayEngage plan now now.asks l.group l.source l.target
 MayDo plan now (Began call) = MayBegin plan now call
 MayDo plan now _ = Unit {0}

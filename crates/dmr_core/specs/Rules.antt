@@ -18,7 +18,7 @@ use Rattle.dmr_plan.specs.declared.settings.Settings.{Settings}
 use Rattle.dmr_plan.specs.Plan.{lists_radio, lists_group}
 use Rattle.dmr_registry.specs.Limits.{most_radios}
 use Rattle.dmr_registry.specs.Least.{least_from}
-use Rattle.dmr_access.specs.Fill.{fill_of, is_late_due}
+use Rattle.dmr_access.specs.Fill.{fill_of, is_late_due, window_of}
 use Rattle.dmr_calls.specs.declared.ask.Ask.{Ask}
 use Rattle.dmr_calls.specs.declared.line.Line.{Line}
 use Rattle.dmr_calls.specs.declared.call.Call.{Call}
@@ -50,7 +50,8 @@ use Rattle.dmr_core.specs.Words.{is_registered, is_engaged}
 
 -- C_ACKD to the source, with this reason, that names the target
 abbrev pub ack : Settings → ℕ → ℕ → ℕ → List Act
-ack plan source target reason = Queue (control_slot plan) (Ackd 0 reason false source target) ∷ []
+ack plan source target reason =
+    Queue (control_slot plan.lists) (Ackd 0 reason false source target) ∷ []
 
 -- the grant of a call: TV_GRANT to a talkgroup, else PV_GRANT
 abbrev pub grant_pdu : Settings → Call → Bool → Pdu
@@ -62,13 +63,13 @@ grant_pdu plan call late =
 -- the grant in as many copies as the plan's `grant_copies`
 unfoldable pub grant : Settings → Call → Bool → List Act
 grant plan call late =
-    replicate plan.grant_copies (Queue (control_slot plan) (grant_pdu plan call late))
+    replicate plan.calls.grant_copies (Queue (control_slot plan.lists) (grant_pdu plan call late))
 
 -- a call ends, and P_CLEAR is queued on its slot in as many copies as the plan's `clear_copies`
 unfoldable pub clear : Settings → Call → List Act
 clear plan call =
-    Ended call.slot ∷ replicate plan.clear_copies
-    (Queue call.slot (Clear (lpcn_of plan plan.control) call.group call.target plan.tsi))
+    Ended call.slot ∷ replicate plan.calls.clear_copies (Queue call.slot
+    (Clear (lpcn_of plan plan.lists.control) call.group call.target plan.system.tsi))
 
 -- the call that a line becomes on a slot
 abbrev pub call_of_line : Line → Slot → Call
@@ -85,7 +86,8 @@ option_bit options k = nat_lt k 7 && (((options / 2 ^ k) % 2) == 1)
 
 -- a registration request leaves if the plan names an option bit and that bit is 0
 unfoldable pub is_leaving : Settings → ℕ → Bool
-is_leaving plan options = option_map_or (λ k. not (option_bit options k)) plan.leave_bit false
+is_leaving plan options =
+    option_map_or (λ k. not (option_bit options k)) plan.system.leave_bit false
 
 -- the first call, ask or line that engages a radio ends: as its source, or as the target of an individual one. If the
 -- radio is the target of the ask or line, its source gets NoReg_MS_Away
@@ -141,7 +143,8 @@ acts_for_talkgroup_request plan now q =
 -- C_AHOY to the target of an ask
 abbrev pub ahoy : Settings → Ask → List Act
 ahoy plan ask =
-    Queue (control_slot plan) (Ahoy ask.options false individual_voice ask.target ask.source) ∷ []
+    Queue (control_slot plan.lists)
+    (Ahoy ask.options false individual_voice ask.target ask.source) ∷ []
 
 -- the acts for an individual request, by the first row that applies
 unfoldable pub acts_for_individual_request : Settings → Facts → Request → List Act
@@ -201,20 +204,19 @@ acts_for_pdu plan now (Acku info reason spare target additional) =
     acts_for_called_radio plan now reason additional
 acts_for_pdu plan now _ = []
 
--- the first line becomes a call, if a slot is free
-unfoldable pub acts_for_first_line : Settings → Facts → List Act
-acts_for_first_line plan now =
+-- a line, if there is one, becomes a call, if a slot is free
+unfoldable pub acts_for_line : Settings → Facts → Option Line → List Act
+acts_for_line plan now first =
     option_map_or (λ (line : Line). option_map_or (λ (slot : Slot). Unlined line.source
     ∷ begin plan (call_of_line line slot)) (lowest_free plan now)
     [])
-    (first_line now.lines) []
+    first []
 
--- the ask whose last C_AHOY was queued first, if it is due: repeated, or removed after the plan's last try, and its
--- source gets NoReg_MS_Away
-unfoldable pub acts_for_due_ask : Settings → Facts → List Act
-acts_for_due_ask plan now =
+-- an ask that is due is repeated, or removed after the plan's last try, and its source gets NoReg_MS_Away
+unfoldable pub acts_for_due_ask : Settings → Option Ask → List Act
+acts_for_due_ask plan due =
     option_map_or (λ (ask : Ask).
-    if nat_lt ask.attempt plan.ahoy_tries
+    if nat_lt ask.attempt plan.calls.ahoy_tries
     then Asked (record {
       source = ask.source;
       target = ask.target;
@@ -222,21 +224,24 @@ acts_for_due_ask plan now =
       attempt = ask.attempt + 1;
     }) ∷ ahoy plan ask
     else AskOver ask.source ∷ ack plan ask.source ask.target noreg_ms_away)
-    (due_ask plan.ahoy_wait now.asks) []
+    due []
 
--- the first call that is over is cleared
-unfoldable pub acts_for_due_call : Settings → List ActiveCall → List Act
-acts_for_due_call plan calls =
+-- the call on a slot that is due is cleared
+unfoldable pub acts_for_due_call : Settings → List ActiveCall → Option Slot → List Act
+acts_for_due_call plan calls due =
     option_map_or
-    (λ (slot : Slot). option_map_or (λ (call : Call). clear plan call) (call_on calls slot) [])
-    (due_call plan.hang plan.maximum calls)
+    (λ (slot : Slot). option_map_or (λ (call : Call). clear plan call) (call_on calls slot) []) due
     []
 
--- the acts for a Tick, which has been counted
+-- the acts for a Tick, which has been counted: the first call that is over is cleared. If there is room, the ask whose
+-- last C_AHOY was queued first is answered, if it is due, and the first line is served
 unfoldable pub acts_for_tick : Settings → Facts → List Act
 acts_for_tick plan now =
-    acts_for_due_call plan now.calls
-    ++ (if has_room plan now then acts_for_due_ask plan now ++ acts_for_first_line plan now else [])
+    acts_for_due_call plan now.calls (due_call plan.calls.hang plan.calls.maximum now.calls)
+    ++ (if has_room plan now
+    then acts_for_due_ask plan (due_ask plan.calls.ahoy_wait now.asks)
+    ++ acts_for_line plan now (first_line now.lines)
+    else [])
 
 -- the late entry of the next Fill: the grant of the next talkgroup call. There is one if it is due, the control channel
 -- is not to be moved, and a talkgroup call is active.
@@ -246,12 +251,15 @@ late_entry plan now =
     then option_map (λ (call : Call). grant_pdu plan call true) (next_call plan now)
     else None
 
+-- the next Fill of the control slot
+abbrev pub next_fill : Settings → Facts → Pdu
+next_fill plan now =
+    fill_of (window_of plan now.noise now.fills) now.moving (late_entry plan now)
+
 -- the first PDU that waits for a slot is sent; if none waits and the slot is the control slot, it is filled
 abbrev pub acts_for_outbox : Settings → Facts → Slot → List Pdu → List Act
 acts_for_outbox plan now slot [] =
-    if is_control plan slot
-    then Fill slot (fill_of plan now.moving now.noise now.fills (late_entry plan now)) ∷ []
-    else []
+    if is_control plan.lists slot then Fill slot (next_fill plan now) ∷ [] else []
 acts_for_outbox plan now slot (pdu ∷ pdus) = Send slot pdu ∷ []
 
 -- the acts for a slot of a carrier that polls
@@ -302,7 +310,7 @@ answer_to_command plan now command.Stay = acts_and_done []
 -- the acts that answer an event, from the facts before it; a Tick is counted first
 abbrev pub acts_of : Settings → Facts → Event → List Act
 acts_of plan now (Heard slot pdu) =
-    if is_up now slot.carrier && (is_control plan slot && has_room plan now)
+    if is_up now slot.carrier && (is_control plan.lists slot && has_room plan now)
     then acts_for_pdu plan now pdu
     else []
 acts_of plan now (Poll c) =

@@ -8,8 +8,8 @@ use Rattle.std.proofs.lemmas.Bool.{eq-eqb}
 use Rattle.std.proofs.lemmas.Bool.Decides.{Decides-and, Decides-eqb}
 use Rattle.dmr_plan.specs.Same.{are_same as are_same_plans}
 use Rattle.dmr_plan.specs.Same.{are_same-Decides as are_same_plans-Decides}
-use Rattle.dmr_calls.specs.Same.{are_same as are_same_standings}
-use Rattle.dmr_calls.specs.Same.{are_same-Decides as are_same_standings-Decides}
+use Rattle.dmr_calls.specs.Same.{are_same as are_same_lists}
+use Rattle.dmr_calls.specs.Same.{are_same-Decides as are_same_lists-Decides}
 use Rattle.dmr_pool.specs.Same.{beq-Decides, are_same_pdus, are_same_pdus-Decides}
 use Rattle.dmr_core.specs.declared.named.NamedSlot.{NamedSlot}
 use Rattle.dmr_core.specs.State.{SiteState}
@@ -32,7 +32,7 @@ abbrev pub are_same : SiteState → SiteState → Bool
 are_same a b =
     are_same_plans a.plan b.plan && pointwise beq a.facts.up b.facts.up
     && pointwise nat_eq a.facts.registered b.facts.registered
-    && are_same_standings (active_lists a.facts) (active_lists b.facts)
+    && are_same_lists (active_lists a.facts) (active_lists b.facts)
     && pointwise are_same_pdus a.facts.outboxes b.facts.outboxes
     && (pointwise nat_eq a.facts.noise b.facts.noise && nat_eq a.facts.fills b.facts.fills)
     && is_same_option a.facts.moving b.facts.moving && is_same_named a.facts.late b.facts.late
@@ -63,14 +63,14 @@ same_parts : (a b : SiteState) → a.plan ≡ b.plan → a.facts.up ≡ b.facts.
     → a.facts.outboxes ≡ b.facts.outboxes → a.facts.noise ≡ b.facts.noise
     → a.facts.fills ≡ b.facts.fills → a.facts.moving ≡ b.facts.moving → a.facts.late ≡ b.facts.late
     → a ≡ b
-same_parts a b plan up registered stands outboxes noise fills moving late = λ i. record {
+same_parts a b plan up registered lists outboxes noise fills moving late = λ i. record {
   plan = plan i;
   facts = record {
     up = up i;
     registered = registered i;
-    asks = (stands i).asks;
-    lines = (stands i).lines;
-    calls = (stands i).calls;
+    asks = (lists i).asks;
+    lines = (lists i).lines;
+    calls = (lists i).calls;
     outboxes = outboxes i;
     noise = noise i;
     moving = moving i;
@@ -85,14 +85,14 @@ are_same-Decides a b =
     let plan = are_same_plans-Decides a.plan b.plan in
     let up = pointwise_decides beq-Decides a.facts.up b.facts.up in
     let registered = bytes_decides a.facts.registered b.facts.registered in
-    let stands = are_same_standings-Decides (active_lists a.facts) (active_lists b.facts) in
+    let lists = are_same_lists-Decides (active_lists a.facts) (active_lists b.facts) in
     let outboxes = pointwise_decides are_same_pdus-Decides a.facts.outboxes b.facts.outboxes in
     let noise = bytes_decides a.facts.noise b.facts.noise in
     let moving = is_same_option-Decides a.facts.moving b.facts.moving in
     let access = Decides-and _ _ noise (Decides-eqb a.facts.fills b.facts.fills) in
     let late = is_same_named-Decides a.facts.late b.facts.late in
     let d = Decides-and _ _ (Decides-and _ _ (Decides-and _ _ (Decides-and _ _ (Decides-and _ _
-    (Decides-and _ _ (Decides-and _ _ plan up) registered) stands) outboxes) access) moving)
+    (Decides-and _ _ (Decides-and _ _ plan up) registered) lists) outboxes) access) moving)
     late in (
       λ h. let e = d.0 h in
           same_parts a b e.0.0.0.0.0.0.0 e.0.0.0.0.0.0.1 e.0.0.0.0.0.1 e.0.0.0.0.1 e.0.0.0.1

@@ -47,8 +47,8 @@ fills_in (entry ∷ earlier) = fills_in earlier + total fill_in entry.acts.list
 
 -- the event is the Up or Lost of the control carrier
 abbrev pub is_turn : Settings → Event → Bool
-is_turn plan (Up c) = c == plan.control
-is_turn plan (Lost c) = c == plan.control
+is_turn plan (Up c) = c == plan.lists.control
+is_turn plan (Lost c) = c == plan.lists.control
 is_turn plan _ = false
 
 -- the Fills since the control carrier last came up or was lost; if it never did, all Fills and the count before the

@@ -27,11 +27,11 @@ outbox now slot = box now.outboxes slot
 
 -- at most 56 PDUs wait for the control slot
 abbrev pub has_room : Settings → Facts → Bool
-has_room plan now = nat_le (length (outbox now (control_slot plan))) most_with_room
+has_room plan now = nat_le (length (outbox now (control_slot plan.lists))) most_with_room
 
 -- the channel of a carrier; 1 if the plan does not have it
 abbrev pub lpcn_of : Settings → ℕ → ℕ
-lpcn_of plan c = option_map_or (λ (row : CarrierRow). row.lpcn) (row_with plan.carriers c) 1
+lpcn_of plan c = option_map_or (λ (row : CarrierRow). row.lpcn) (row_with plan.lists.carriers c) 1
 
 -- a call is active on the slot
 abbrev pub has_call_on : List ActiveCall → Slot → Bool
@@ -39,11 +39,11 @@ has_call_on calls slot = list_any (λ s. is_slot s.call.slot slot) calls
 
 -- the slot is free for a call; calls hold the slots on which they are active
 abbrev pub is_free : Settings → Facts → Slot → Bool
-is_free plan now slot = is_free_by plan now.up now.outboxes (has_call_on now.calls) slot
+is_free plan now slot = is_free_by plan.lists now.up now.outboxes (has_call_on now.calls) slot
 
 -- the lowest free slot, by carrier, then slot
 abbrev pub lowest_free : Settings → Facts → Option Slot
-lowest_free plan now = lowest_free_by plan now.up now.outboxes (has_call_on now.calls)
+lowest_free plan now = lowest_free_by plan.lists now.up now.outboxes (has_call_on now.calls)
 
 -- a slot for a new call: the lowest free one, but none while a line waits
 abbrev pub slot_for_new_call : Settings → Facts → Option Slot

@@ -131,11 +131,12 @@ pub fn decided_by_the_last()
         ≡ value_after of_move no_act facts.moving journal }
     ensures ask { (plan : Settings) (facts : Facts) (journal : List Entry) (radio : ℕ)
         → ask_of (facts_after plan facts journal).asks radio
-        ≡ value_after (closed_with plan.control) (of_ask radio) (ask_of facts.asks radio) journal }
+        ≡ value_after (closed_with plan.lists.control) (of_ask radio) (ask_of facts.asks radio)
+        journal }
     ensures line { (plan : Settings) (facts : Facts) (journal : List Entry) (radio : ℕ)
         → IsPlan plan → IsSound plan facts → IsLegal plan facts journal
         → line_of (facts_after plan facts journal).lines radio
-        ≡ value_after (closed_with plan.control) (of_line radio)
+        ≡ value_after (closed_with plan.lists.control) (of_line radio)
         (line_of facts.lines radio) journal }
     ensures call { (plan : Settings) (facts : Facts) (journal : List Entry) (slot : Slot)
         → IsPlan plan → IsSound plan facts → IsLegal plan facts journal
@@ -143,7 +144,7 @@ pub fn decided_by_the_last()
         ≡ value_after (closed_with slot.carrier) (of_call slot) (call_on facts.calls slot) journal }
     ensures late { (plan : Settings) (facts : Facts) (journal : List Entry)
         → (facts_after plan facts journal).late
-        ≡ value_after (closed_with plan.control) of_late facts.late journal }
+        ≡ value_after (closed_with plan.lists.control) of_late facts.late journal }
 {}
 
 /// Late entries name the talkgroup calls in turn.
@@ -195,14 +196,15 @@ pub fn sent_in_order()
 pub fn backoff_counts_noises()
     ensures counts { (plan : Settings) (facts : Facts) (journal : List Entry) → IsPlan plan
         → IsSound plan facts → IsLegal plan facts journal
-        → is_up (facts_after plan facts journal) plan.control ≡ true
-        → backoff_of plan (facts_after plan facts journal).noise
-        ≡ min plan.backoff_high (plan.backoff_low + recent_noises plan facts.noise journal) }
+        → is_up (facts_after plan facts journal) plan.lists.control ≡ true
+        → backoff_of plan.calls (facts_after plan facts journal).noise
+        ≡ min plan.calls.backoff_high (plan.calls.backoff_low
+        + recent_noises plan facts.noise journal) }
     ensures from_nothing { (plan : Settings) (journal : List Entry) → IsPlan plan
         → IsLegal plan no_facts journal
-        → is_up (facts_after plan no_facts journal) plan.control ≡ true
-        → backoff_of plan (facts_after plan no_facts journal).noise
-        ≡ min plan.backoff_high (plan.backoff_low + recent_noises plan [] journal) }
+        → is_up (facts_after plan no_facts journal) plan.lists.control ≡ true
+        → backoff_of plan.calls (facts_after plan no_facts journal).noise
+        ≡ min plan.calls.backoff_high (plan.calls.backoff_low + recent_noises plan [] journal) }
 {
     facts_stay_sound();
 }

@@ -19,7 +19,7 @@ mod restored;
 mod site;
 
 pub use act::{Act, ActList, Acts};
-pub use command::{Command, LineNo};
+pub use command::{Argument, Command, CommandKind, CommandRow, LineNo};
 pub use entry::Entry;
 pub use event::Event;
 pub use laws::{

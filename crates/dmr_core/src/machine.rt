@@ -69,7 +69,8 @@ impl Model for Machine {
       };
     } };
 
-    ghost invariant = { λ m. (m.access.plan ≡ m.plan) × (m.pool.plan ≡ m.plan)
+    ghost invariant = { λ m. (m.access.system ≡ m.plan.system) × (m.access.aloha ≡ m.plan.aloha)
+        × (m.access.calls ≡ m.plan.calls) × (m.pool.lists ≡ m.plan.lists)
         × HoldsCalls m.pool.held m.calls.calls };
 }
 
@@ -395,7 +396,7 @@ impl Machine {
             && self.registry == other.registry
             && self.pool.has_same_carriers_and_pdus(&other.pool)
             && self.calls == other.calls
-            && self.access == other.access
+            && self.access.has_same_noise_and_fills(&other.access)
             && self.moving == other.moving
             && self.late == other.late
     }

@@ -2,15 +2,12 @@
 
 use crate::desk::SiteDesk;
 use crate::judge::Judge;
-use crate::judged_carrier::memory_error;
 use crate::octet_wire::OctetWire;
 use crate::rows::{Form, row_of_event, show_acts, show_reply, show_row};
 use dmr_console::print;
-use dmr_core::{Entry, Event};
+use dmr_core::{Command, Event};
 use dmr_link::{Deposit, Desk};
-use dmr_pdu::{CarrierNo, OutOfMemory};
-use dmr_plan::Plan;
-use dmr_recording::{Carriers, RecordingFault, record_journal};
+use dmr_pdu::CarrierNo;
 use dmr_replay::ScriptInput;
 use std::alloc::Global;
 use std::io;
@@ -18,21 +15,19 @@ use std::io::Write;
 
 /// Prints the entries of a journal, and counts them, the script's inputs and the ticks.
 #[derive(Drop)]
-pub struct EntryPrinter<'a> {
+pub struct EntryPrinter {
     alloc: Global,
-    plan: &'a Plan,
     form: Form,
     count: u64,
     inputs: u64,
     ticks: u64,
 }
 
-impl<'a> EntryPrinter<'a> {
-    /// Begins with no entries, for the site of this plan.
-    pub fn new(alloc: Global, plan: &'a Plan, form: Form) -> EntryPrinter<'a> {
+impl EntryPrinter {
+    /// Begins with no entries.
+    pub fn new(alloc: Global, form: Form) -> EntryPrinter {
         EntryPrinter {
             alloc,
-            plan,
             form,
             count: 0,
             inputs: 0,
@@ -67,8 +62,8 @@ impl<'a> EntryPrinter<'a> {
     fn show_event<W: Write>(&self, deposit: &Deposit, out: &mut W) -> io::Result<()> {
         let row = row_of_event(&deposit.event);
         self.show_number(row.kind, out)?;
-        match deposit.event {
-            Event::Say(_) => self.show_command(deposit, out),
+        match &deposit.event {
+            Event::Say(command) => self.show_command(command, out),
             _ => show_row(&row, self.form, out),
         }
     }
@@ -83,27 +78,11 @@ impl<'a> EntryPrinter<'a> {
         }
     }
 
-    /// Prints the line of an operator's command, as a recording has it.
-    fn show_command<W: Write>(&self, deposit: &Deposit, out: &mut W) -> io::Result<()> {
-        let entry = Entry {
-            actor: 0,
-            event: deposit.event,
-            acts: deposit.acts,
-        };
-        let mut text = String::new(self.alloc);
-        let mut up = Carriers::none_up();
-        match record_journal(self.alloc, self.plan, &mut up, &[entry], &mut text) {
-            Ok(()) => self.show_line(text.as_str(), out),
-            Err(RecordingFault::OutOfMemory) => Err(memory_error(OutOfMemory)),
-            Err(fault) => writeln!(out, "{fault}"),
-        }
-    }
-
-    /// Prints a command's line of a recording, `say LINE`.
-    fn show_line<W: Write>(&self, line: &str, out: &mut W) -> io::Result<()> {
+    /// Prints an operator's command, by its words, and ends the line.
+    fn show_command<W: Write>(&self, command: &Command, out: &mut W) -> io::Result<()> {
         match self.form {
-            Form::Words => write!(out, "{line}"),
-            Form::Fields => write!(out, " text={}", line.strip_prefix("say ").unwrap_or(line)),
+            Form::Words => writeln!(out, "say {command}"),
+            Form::Fields => writeln!(out, " text={command}"),
         }
     }
 }
@@ -113,7 +92,7 @@ impl Judge {
     pub fn show_entries<W: Write>(
         &mut self,
         input: &ScriptInput,
-        entries: &mut EntryPrinter<'_>,
+        entries: &mut EntryPrinter,
         out: &mut W,
     ) -> io::Result<()> {
         entries.inputs = entries.inputs.saturating_add(1);
@@ -132,7 +111,7 @@ impl Judge {
     fn journal_open<W: Write>(
         &mut self,
         carrier: CarrierNo,
-        entries: &mut EntryPrinter<'_>,
+        entries: &mut EntryPrinter,
         out: &mut W,
     ) -> io::Result<()> {
         if let Some(Some(judged)) = self.carriers.get_mut(carrier.get() as usize) {
@@ -145,7 +124,7 @@ impl Judge {
     fn journal_cut<W: Write>(
         &mut self,
         carrier: CarrierNo,
-        entries: &mut EntryPrinter<'_>,
+        entries: &mut EntryPrinter,
         out: &mut W,
     ) -> io::Result<()> {
         if let Some(Some(judged)) = self.carriers.get_mut(carrier.get() as usize) {
@@ -159,7 +138,7 @@ impl Judge {
         &mut self,
         carrier: CarrierNo,
         octets: &[u8],
-        entries: &mut EntryPrinter<'_>,
+        entries: &mut EntryPrinter,
         out: &mut W,
     ) -> io::Result<()> {
         if let Some(Some(judged)) = self.carriers.get_mut(carrier.get() as usize) {
@@ -177,7 +156,7 @@ impl Judge {
     fn journal_ticks<W: Write>(
         &mut self,
         times: u32,
-        entries: &mut EntryPrinter<'_>,
+        entries: &mut EntryPrinter,
         out: &mut W,
     ) -> io::Result<()> {
         for _ in 0..times {
@@ -191,7 +170,7 @@ impl Judge {
     fn journal_text<W: Write>(
         &mut self,
         octets: &[u8],
-        entries: &mut EntryPrinter<'_>,
+        entries: &mut EntryPrinter,
         out: &mut W,
     ) -> io::Result<()> {
         let mut wire = OctetWire::new(entries.alloc, false);

@@ -17,11 +17,11 @@ use std::io::Write;
 
 /// What is printed of a script.
 #[derive(Drop)]
-enum Shown<'a> {
+enum Shown {
     /// Each line, with what the controller makes of it.
     Verdicts,
     /// The entries of the site's journal.
-    Entries(EntryPrinter<'a>),
+    Entries(EntryPrinter),
 }
 
 /// Runs the task with this name over a text, with the site of a plan, and writes its output.
@@ -52,7 +52,7 @@ fn judge_journal<'a, W: Write>(
     text: &str,
     out: &mut W,
 ) -> Result<(), TaskFault<'a>> {
-    let mut shown = Shown::Entries(EntryPrinter::new(alloc, plan, form));
+    let mut shown = Shown::Entries(EntryPrinter::new(alloc, form));
     judge_script(alloc, plan, &mut shown, text, out)
 }
 
@@ -115,7 +115,7 @@ fn show_connection<W: Write>(
 fn judge_script<'a, W: Write>(
     alloc: Global,
     plan: &Plan,
-    shown: &mut Shown<'_>,
+    shown: &mut Shown,
     text: &str,
     out: &mut W,
 ) -> Result<(), TaskFault<'a>> {
@@ -129,7 +129,7 @@ fn judge_script<'a, W: Write>(
 fn judge_lines<'a, W: Write>(
     alloc: Global,
     judge: &mut Judge,
-    shown: &mut Shown<'_>,
+    shown: &mut Shown,
     text: &str,
     out: &mut W,
 ) -> Result<(), TaskFault<'a>> {
@@ -156,7 +156,7 @@ fn lines_in(text: &str) -> Option<&str> {
 fn judge_line<'a, W: Write>(
     alloc: Global,
     judge: &mut Judge,
-    shown: &mut Shown<'_>,
+    shown: &mut Shown,
     line: &str,
     out: &mut W,
 ) -> Result<bool, TaskFault<'a>> {
@@ -182,7 +182,7 @@ fn judge_line<'a, W: Write>(
 fn judge_given<W: Write>(
     alloc: Global,
     judge: &mut Judge,
-    shown: &mut Shown<'_>,
+    shown: &mut Shown,
     line: &str,
     given: &[ScriptInput],
     out: &mut W,

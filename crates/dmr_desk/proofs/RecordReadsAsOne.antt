@@ -141,10 +141,10 @@ after_call laws who [] row writing reads happened stop begins call =
 after_call laws who (s ∷ ss) row writing reads happened stop begins call =
     let answers = answers_in happened in
     let m = matched laws (in_record s) (map in_record ss) row writing reads answers begins call.wire call.few in
-    let aside : progress_after_answers (progress_at (in_record s) 0) answers ≡ bare (progress_after_answers (progress_at s 0) answers) = bare_all (progress_at s 0) answers in (
-      m.past ∙ ap (λ (k : Progress). k.session ∷ map in_record ss) aside,
+    let unread : progress_after_answers (progress_at (in_record s) 0) answers ≡ bare (progress_after_answers (progress_at s 0) answers) = bare_all (progress_at s 0) answers in (
+      m.past ∙ ap (λ (k : Progress). k.session ∷ map in_record ss) unread,
       λ full. (
-        m.writing ∙ ap (λ (k : Progress). k.writing) aside ∙ call.rested s ss refl,
+        m.writing ∙ ap (λ (k : Progress). k.writing) unread ∙ call.rested s ss refl,
         inr (elim m.reads_are [ inl are ↦ are ∙ full | inr none ↦ absurd (omega arith) ]),
       ),
     )
@@ -165,9 +165,9 @@ silent_bare [] deposits = refl
 silent_bare (s ∷ ss) deposits = refl
 
 -- a reading of all answers of these steps
-record Follows (past : List Session) (doings : List Step) (r : Reading) : Type 0 where
-  pub has : Has r (past_after past doings)
-  pub begins : MayBeginServe doings → Begins r
+record Follows (past : List Session) (steps : List Step) (r : Reading) : Type 0 where
+  pub has : Has r (past_after past steps)
+  pub begins : MayBeginServe steps → Begins r
 
 asked_more : (past : List Session) (earlier : List Step) (x : Answer) (r : Reading) → IsAsk x → Follows past earlier r → Follows past (Asked x ∷ earlier) (reading_after_any r x)
 asked_more past earlier Opened r is f = record { has = ap (λ (ss : List Session). new_session ∷ ss) f.has; begins = λ may. (refl, inl (refl, refl)) }
@@ -202,7 +202,7 @@ read_more past earlier d answers r are f =
 abbrev start : List Session → Reading
 start past = reading_at (map in_record past) 0 0 0
 
-follows : RecordLaws → (who : Peer) (past : List Session) (doings : List Step) → IsOrderly who past doings → Follows past doings (reading_after_all (start past) (answers_in (happened_of doings)))
+follows : RecordLaws → (who : Peer) (past : List Session) (steps : List Step) → IsOrderly who past steps → Follows past steps (reading_after_all (start past) (answers_in (happened_of steps)))
 follows laws who past [] orderly = record { has = refl; begins = λ may. (refl, inl (refl, refl)) }
 follows laws who past (Asked x ∷ earlier) orderly =
     read_more past earlier (Asked x) (x ∷ []) (start past) refl
@@ -214,22 +214,22 @@ follows laws who past (Waited x deposits ∷ earlier) orderly =
     read_more past earlier (Waited x deposits) (x ∷ []) (start past) (ap (λ (xs : List Answer). x ∷ xs) (no_answers deposits))
     (waited_more past earlier x deposits (reading_after_all (start past) (answers_in (happened_of earlier))) orderly.0 (follows laws who past earlier orderly.2))
 
-pub one_record : RecordLaws → (who : Peer) (past : List Session) (doings : List Step) → IsOrderly who past doings → IsOneRecord past doings
-one_record laws who past doings orderly = sym (follows laws who past doings orderly).has
+pub one_record : RecordLaws → (who : Peer) (past : List Session) (steps : List Step) → IsOrderly who past steps → IsOneRecord past steps
+one_record laws who past steps orderly = sym (follows laws who past steps orderly).has
 
 -- the same for a port that reports its record
-pub record_since : RecordLaws → (who : Peer) (past : List Session) (doings : List Step) (begun whole : List Answer) → IsOrderly who past doings → (before after : Option (List Answer)) → Reports before (answers_in (happened_of doings)) after →
-    before ≡ Some begun → after ≡ Some whole → (answers : List Answer) × (whole ≡ begun ++ answers) × (map in_record (past_after past doings) ≡ read_on past answers)
-record_since laws who past doings begun whole orderly before after tells some later =
+pub record_since : RecordLaws → (who : Peer) (past : List Session) (steps : List Step) (begun whole : List Answer) → IsOrderly who past steps → (before after : Option (List Answer)) → Reports before (answers_in (happened_of steps)) after →
+    before ≡ Some begun → after ≡ Some whole → (answers : List Answer) × (whole ≡ begun ++ answers) × (map in_record (past_after past steps) ≡ read_on past answers)
+record_since laws who past steps begun whole orderly before after tells some later =
     let f = tells.follows whole later in
     let same : f.0 ≡ begun = same_Some f.0 begun (sym f.1 ∙ some) in (
-      answers_in (happened_of doings),
-      f.2 ∙ ap (λ (xs : List Answer). xs ++ answers_in (happened_of doings)) same,
-      one_record laws who past doings orderly,
+      answers_in (happened_of steps),
+      f.2 ∙ ap (λ (xs : List Answer). xs ++ answers_in (happened_of steps)) same,
+      one_record laws who past steps orderly,
     )
 
-pub whole_record : RecordLaws → (who : Peer) (doings : List Step) (whole : List Answer) → IsOrderly who [] doings → (before after : Option (List Answer)) → Reports before (answers_in (happened_of doings)) after →
-    before ≡ Some [] → after ≡ Some whole → map in_record (past_after [] doings) ≡ read_on [] whole
-whole_record laws who doings whole orderly before after tells none some =
-    let r = record_since laws who [] doings [] whole orderly before after tells none some in
+pub whole_record : RecordLaws → (who : Peer) (steps : List Step) (whole : List Answer) → IsOrderly who [] steps → (before after : Option (List Answer)) → Reports before (answers_in (happened_of steps)) after →
+    before ≡ Some [] → after ≡ Some whole → map in_record (past_after [] steps) ≡ read_on [] whole
+whole_record laws who steps whole orderly before after tells none some =
+    let r = record_since laws who [] steps [] whole orderly before after tells none some in
     r.2 ∙ ap (read_on []) (sym r.1)

@@ -48,19 +48,19 @@ module _ (none : (x : Sides) → Happens x [] x) (more : (x y z : Sides) (first 
   went_nowhere : (s : StationState) → WentOn (work_state s []) (work_state s []) []
   went_nowhere s = record { who = refl; happens = none (sides_at s []); stands = λ past h. h; view = λ past h. sym (append-nil (deposits_of_sessions past)); orderly = λ past h. tt }
 
-  went_on : (s t u : StationState) (view own : List Deposit) (terms : List (List Step)) (doings : List Step) → WentOn (work_state s []) (work_state t view) terms → Steps (work_state t []) (work_state u own) doings
-      → WentOn (work_state s []) (work_state u (view ++ own)) (doings ∷ terms)
-  went_on s t u view own terms doings before now = record {
+  went_on : (s t u : StationState) (view own : List Deposit) (terms : List (List Step)) (steps : List Step) → WentOn (work_state s []) (work_state t view) terms → Steps (work_state t []) (work_state u own) steps
+      → WentOn (work_state s []) (work_state u (view ++ own)) (steps ∷ terms)
+  went_on s t u view own terms steps before now = record {
     who = now.who ∙ before.who;
-    happens = more (sides_at s []) (sides_at t view) (sides_at u (view ++ own)) (happened_of_terms terms) (happened_of doings) before.happens (after_view t u view own (happened_of doings) now.happens);
+    happens = more (sides_at s []) (sides_at t view) (sides_at u (view ++ own)) (happened_of_terms terms) (happened_of steps) before.happens (after_view t u view own (happened_of steps) now.happens);
     stands = λ past h. now.stands (past_after_terms past terms) (before.stands past h);
     view = λ past h.
         now.view (past_after_terms past terms) (before.stands past h)
-        ∙ ap (λ (ds : List Deposit). ds ++ deposits_in (happened_of doings)) (before.view past h)
-        ∙ append_assoc (deposits_of_sessions past) (deposits_in (happened_of_terms terms)) (deposits_in (happened_of doings))
-        ∙ ap (λ (ds : List Deposit). deposits_of_sessions past ++ ds) (sym (filter_map-append desk_deposit (happened_of_terms terms) (happened_of doings)));
+        ∙ ap (λ (ds : List Deposit). ds ++ deposits_in (happened_of steps)) (before.view past h)
+        ∙ append_assoc (deposits_of_sessions past) (deposits_in (happened_of_terms terms)) (deposits_in (happened_of steps))
+        ∙ ap (λ (ds : List Deposit). deposits_of_sessions past ++ ds) (sym (filter_map-append desk_deposit (happened_of_terms terms) (happened_of steps)));
     orderly = λ past h.
-        let P : Peer → Type 0 = λ p. IsOrderly p (past_after_terms past terms) doings in
+        let P : Peer → Type 0 = λ p. IsOrderly p (past_after_terms past terms) steps in
         (subst P before.who (now.orderly (past_after_terms past terms) (before.stands past h)), before.orderly past h);
   }
 
@@ -126,17 +126,17 @@ in_record_twice : (past : List Session) → map in_record (map in_record past) �
 in_record_twice [] = refl
 in_record_twice (s ∷ ss) = ap (λ (rest : List Session). in_record s ∷ rest) (in_record_twice ss)
 
-pub records_of_terms : ((who : Peer) (past : List Session) (doings : List Step) → IsOrderly who past doings → IsOneRecord past doings) → (who : Peer) (past : List Session) (terms : List (List Step)) → AreOrderly who past terms
+pub records_of_terms : ((who : Peer) (past : List Session) (steps : List Step) → IsOrderly who past steps → IsOneRecord past steps) → (who : Peer) (past : List Session) (terms : List (List Step)) → AreOrderly who past terms
     → map in_record (past_after_terms past terms) ≡ read_terms past (answers_of_terms terms)
 records_of_terms one who past [] orderly = refl
-records_of_terms one who past (doings ∷ earlier) orderly =
+records_of_terms one who past (steps ∷ earlier) orderly =
     let same : map in_record (past_after_terms past earlier) ≡ map in_record (read_terms past (answers_of_terms earlier)) =
     sym (in_record_twice (past_after_terms past earlier)) ∙ ap (map in_record) (records_of_terms one who past earlier orderly.1) in
-    one who (past_after_terms past earlier) doings orderly.0 ∙ ap (λ (ss : List Session). (reading_after_all (reading_at ss 0 0 0) (answers_in (happened_of doings))).past) same
+    one who (past_after_terms past earlier) steps orderly.0 ∙ ap (λ (ss : List Session). (reading_after_all (reading_at ss 0 0 0) (answers_in (happened_of steps))).past) same
 
 answers_joined : (terms : List (List Step)) → answers_in (happened_of_terms terms) ≡ joined_answers (answers_of_terms terms)
 answers_joined [] = refl
-answers_joined (doings ∷ earlier) = filter_map-append port_answer (happened_of_terms earlier) (happened_of doings) ∙ ap (λ (xs : List Answer). xs ++ answers_in (happened_of doings)) (answers_joined earlier)
+answers_joined (steps ∷ earlier) = filter_map-append port_answer (happened_of_terms earlier) (happened_of steps) ∙ ap (λ (xs : List Answer). xs ++ answers_in (happened_of steps)) (answers_joined earlier)
 
 pub answers_since : (m n : WorkState) (terms : List (List Step)) (begun whole : List Answer) → WentOn m n terms → m.at.reported ≡ Some begun → n.at.reported ≡ Some whole → whole ≡ begun ++ joined_answers (answers_of_terms terms)
 answers_since m n terms begun whole went before after =

@@ -30,18 +30,18 @@ joined_view actor (end ∷ earlier) = joined_view actor earlier ++ slice_index_o
 -- the connections after the steps of all terms
 abbrev pub past_after_terms : List Session → List (List Step) → List Session
 past_after_terms past [] = past
-past_after_terms past (doings ∷ earlier) = past_after (past_after_terms past earlier) doings
+past_after_terms past (steps ∷ earlier) = past_after (past_after_terms past earlier) steps
 
 -- what happened in all terms, oldest first
 abbrev pub happened_of_terms : List (List Step) → List Happening
 happened_of_terms [] = []
-happened_of_terms (doings ∷ earlier) = happened_of_terms earlier ++ happened_of doings
+happened_of_terms (steps ∷ earlier) = happened_of_terms earlier ++ happened_of steps
 
 -- the steps of each term are in order, from the connections that the terms before it left
 abbrev pub AreOrderly : Peer → List Session → List (List Step) → Type 0
 AreOrderly who past [] = Unit {0}
-AreOrderly who past (doings ∷ earlier) =
-    IsOrderly who (past_after_terms past earlier) doings × AreOrderly who past earlier
+AreOrderly who past (steps ∷ earlier) =
+    IsOrderly who (past_after_terms past earlier) steps × AreOrderly who past earlier
 
 -- these steps, term by term, lead from moment `m` to moment `n`
 pub record WentOn (m : WorkState) (n : WorkState) (terms : List (List Step)) : Type 0 where
@@ -68,7 +68,7 @@ HasWorkedOn count s t view =
 
 -- the answers of a port in the steps of each term
 abbrev pub answers_of_terms : List (List Step) → List (List Answer)
-answers_of_terms terms = map (λ (doings : List Step). answers_in (happened_of doings)) terms
+answers_of_terms terms = map (λ (steps : List Step). answers_in (happened_of steps)) terms
 
 -- the answers of all terms, oldest first
 abbrev pub joined_answers : List (List Answer) → List Answer

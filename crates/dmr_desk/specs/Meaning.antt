@@ -24,8 +24,8 @@ read_on past answers = (reading_after_all (reading_at (map in_record past) 0 0 0
 
 -- ONE RECORD: all answers of the port, read in one go, give the connections that the steps produced, one after another
 abbrev pub IsOneRecord : List Session → List Step → Type 0
-IsOneRecord past doings =
-    map in_record (past_after past doings) ≡ read_on past (answers_in (happened_of doings))
+IsOneRecord past steps =
+    map in_record (past_after past steps) ≡ read_on past (answers_in (happened_of steps))
 
 -- ---- one meaning
 

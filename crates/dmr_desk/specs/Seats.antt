@@ -19,37 +19,9 @@ seat_with_deposit seat event acts = record {
   deposits = seat.deposits ++ record { event = event; acts = acts } ∷ [];
 }
 
--- settings that no site file yields
-abbrev pub no_settings : Settings
-no_settings = record {
-  system = 0;
-  regi = 0;
-  tsi = 0;
-  leave_bit = None;
-  aloha_sync = false;
-  aloha_version = 0;
-  aloha_offset = false;
-  aloha_active = false;
-  nrand_wait = 0;
-  hang = 0;
-  maximum = 0;
-  ahoy_wait = 0;
-  ahoy_tries = 0;
-  grant_copies = 0;
-  clear_copies = 0;
-  backoff_low = 0;
-  backoff_high = 0;
-  tick_ms = 0;
-  silence = 0;
-  term_entries = 0;
-  link_version = 0;
-  address = [];
-  console_port = 0;
-  radios = [];
-  groups = [];
-  carriers = [];
-  control = 0;
-}
+-- settings that no site file yields; it does not matter which
+pub no_settings : Settings
+no_settings = search (zero, false, None, [])
 
 -- a desk: the site when it was opened, the limit of its journal, and the number of its actors
 pub record Opened : Type 0 where

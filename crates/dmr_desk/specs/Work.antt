@@ -2,10 +2,9 @@
 use Rattle.std.specs.Prelude.{◌≡◌, ◌≤◌, ◌+◌, ◌⊎◌, ℕ, true, List, [], ◌∷◌, ◌++◌, Option, Some, None}
 use Rattle.std.specs.Prelude.{length, map}
 use Rattle.dmr_wire.specs.Answers.{Answer, Opened, NotYet, Finished, Again, Silent, Reports}
-use Rattle.dmr_core.specs.declared.event.Event.{Event}
 use Rattle.dmr_link.specs.declared.desk.Deposit.{Deposit}
 use Rattle.dmr_link.specs.declared.desk.Desk.{Ghosts as Desk}
-use Rattle.dmr_link.specs.declared.desk.TermOver.{TermOver}
+use Rattle.dmr_link.specs.Desks.{HasRefused}
 use Rattle.dmr_link.specs.declared.ended.Ended.{Ended}
 use Rattle.dmr_link.specs.declared.ended.Ended.TheVariants as ended
 use Rattle.dmr_link.specs.declared.stream.Peer.{Peer}
@@ -190,18 +189,18 @@ IsOrderly who past (Waited answer deposits ∷ earlier) =
 
 -- these steps lead from moment `m` to moment `n`: what port, desk and gate report goes on by them, and so do the link's
 -- connections
-pub record Steps (m : WorkState) (n : WorkState) (doings : List Step) : Type 0 where
+pub record Steps (m : WorkState) (n : WorkState) (steps : List Step) : Type 0 where
   pub who : n.at.link.who ≡ m.at.link.who
   -- the reports of port, desk and gate continue with exactly what happened
-  pub happens : Happens (sides_at m.at m.calls) (happened_of doings) (sides_at n.at n.calls)
+  pub happens : Happens (sides_at m.at m.calls) (happened_of steps) (sides_at n.at n.calls)
   -- if connections agreed with the link's state before (`HasPast`), they agree with it after these steps
   pub stands : (past : List Session) → HasPast m.at.link past
-      → HasPast n.at.link (past_after past doings)
+      → HasPast n.at.link (past_after past steps)
   -- the desk's deposits in these steps, in one list, are those of these connections since
   pub view : (past : List Session) → HasPast m.at.link past
-      → deposits_of_sessions (past_after past doings)
-      ≡ deposits_of_sessions past ++ deposits_in (happened_of doings)
-  pub orderly : (past : List Session) → HasPast m.at.link past → IsOrderly m.at.link.who past doings
+      → deposits_of_sessions (past_after past steps)
+      ≡ deposits_of_sessions past ++ deposits_in (happened_of steps)
+  pub orderly : (past : List Session) → HasPast m.at.link past → IsOrderly m.at.link.who past steps
 
 -- the last answer to a request was that there will be no more connections
 abbrev pub HasFinished : List Step → Type 0
@@ -215,9 +214,9 @@ WasShut other = ⊥
 
 -- the steps allow this ending; a worker has finished only if no connection is open and nothing is pending
 abbrev pub EndsFor : Ending → LinkState → List Step → Type 0
-EndsFor ending.Finished link doings = HasFinished doings × IsOver link
-EndsFor ending.GateShut link doings = WasShut doings
-EndsFor ending.TermOver link doings = Unit {0}
+EndsFor ending.Finished link steps = HasFinished steps × IsOver link
+EndsFor ending.GateShut link steps = WasShut steps
+EndsFor ending.TermOver link steps = Unit {0}
 
 -- the last step met a desk that refused an event: a call of `serve`, or a cut for silence
 abbrev pub WasRefused : List Step → Type 0
@@ -229,24 +228,19 @@ WasRefused other = ⊥
 -- refusal. So if the desk returns at the k-th question that the term is over, k - 1 steps were made. The numbers are
 -- compared: that each question comes before its step is read in the worker's body
 abbrev pub AsksForEach : Option ℕ → List Step → Ending → Option ℕ → Type 0
-AsksForEach before doings ending.TermOver after =
-    Questioned before (length doings + 1) after
-    ⊎ (WasRefused doings × Questioned before (length doings) after)
-AsksForEach before doings e after = Questioned before (length doings) after
+AsksForEach before steps ending.TermOver after =
+    Questioned before (length steps + 1) after
+    ⊎ (WasRefused steps × Questioned before (length steps) after)
+AsksForEach before steps e after = Questioned before (length steps) after
 
 -- a worker's whole work: steps that lead from `m` to `n` and allow its ending. For each of them the worker asks the desk
 -- whether the term is over
 abbrev pub WorksUntil : WorkState → WorkState → Ending → Type 0
 WorksUntil m n e =
-    (doings : List Step) × Steps m n doings × EndsFor e n.at.link doings
-    × AsksForEach m.questions doings e n.questions
+    (steps : List Step) × Steps m n steps × EndsFor e n.at.link steps
+    × AsksForEach m.questions steps e n.questions
 
 -- ---- the desk said that the term is over
-
--- the desk refused an event, and is as it then was
-abbrev pub HasRefused : {D : Type 0} → Desk D → D → Type 0
-HasRefused {D = D} its desk =
-    (before : D) × (event : Event) × (over : TermOver) × its.refuses before event over desk
 
 -- the last that the desk said was that the term is over: it refused an event, or was asked
 abbrev pub SaidOver : {D : Type 0} → Desk D → D → Type 0
@@ -257,14 +251,14 @@ SaidOver {D = D} its desk = HasRefused its desk ⊎ ((before : D) × its.ends be
 -- the work continues, with a call of `serve` or a request for a connection
 abbrev pub IsAtWork : WorkState → WorkState → Type 0
 IsAtWork m n =
-    (doings : List Step) × Steps m n doings × (is_live n.at.link ≡ true → MayBeginServe doings)
-    × Questioned m.questions (length doings) n.questions
+    (steps : List Step) × Steps m n steps × (is_live n.at.link ≡ true → MayBeginServe steps)
+    × Questioned m.questions (length steps) n.questions
 
 -- the worker is about to wait
 abbrev pub IsAboutToWait : WorkState → WorkState → Type 0
 IsAboutToWait m n =
-    (doings : List Step) × Steps m n doings × MayWait doings × IsQuiet n.at.link
-    × (n.at.link.unread ≡ []) × Questioned m.questions (length doings) n.questions
+    (steps : List Step) × Steps m n steps × MayWait steps × IsQuiet n.at.link
+    × (n.at.link.unread ≡ []) × Questioned m.questions (length steps) n.questions
 
 -- the work continues, or it has ended with this ending
 abbrev pub IsNextStep : WorkState → WorkState → Option Ending → Type 0

@@ -14,18 +14,18 @@ use dmr_link::laws::{links_account, links_rest, records_read};
 /// the steps, except for their deposits. So the port's record alone says what came on each connection, what the
 /// connection took, and how it ended; no reader needs to know when a call began.
 pub fn one_record()
-    ensures steps { (who : APeer) (past : List Session) (doings : List Step)
-        → IsOrderly who past doings → IsOneRecord past doings }
+    ensures steps { (who : APeer) (past : List Session) (steps : List Step)
+        → IsOrderly who past steps → IsOneRecord past steps }
     // If the port reports its record, these are the connections that its answers since then give.
-    ensures since { (m n : WorkState) (past : List Session) (doings : List Step)
-        (begun whole : List Answer) → Steps m n doings → HasPast m.at.link past
+    ensures since { (m n : WorkState) (past : List Session) (steps : List Step)
+        (begun whole : List Answer) → Steps m n steps → HasPast m.at.link past
         → m.at.reported ≡ Some begun → n.at.reported ≡ Some whole
         → (answers : List Answer) × (whole ≡ begun ++ answers)
-        × (map in_record (past_after past doings) ≡ read_on past answers) }
+        × (map in_record (past_after past steps) ≡ read_on past answers) }
     // If link and port were new, these are the connections of the port's whole record.
-    ensures whole { (m n : WorkState) (doings : List Step) (whole : List Answer) → Steps m n doings
+    ensures whole { (m n : WorkState) (steps : List Step) (whole : List Answer) → Steps m n steps
         → HasPast m.at.link [] → m.at.reported ≡ Some [] → n.at.reported ≡ Some whole
-        → map in_record (past_after [] doings) ≡ read_on [] whole }
+        → map in_record (past_after [] steps) ≡ read_on [] whole }
 {
     records_read();
 }
@@ -38,8 +38,8 @@ pub fn one_meaning()
     ensures stands { (link : ALinkState) (past : List Session) → HasPast link past
         → IsOneMeaning link past }
     // The same of a worker's link, after the worker's steps.
-    ensures works { (m n : WorkState) (past : List Session) (doings : List Step) → Steps m n doings
-        → HasPast m.at.link past → IsOneMeaning n.at.link (past_after past doings) }
+    ensures works { (m n : WorkState) (past : List Session) (steps : List Step) → Steps m n steps
+        → HasPast m.at.link past → IsOneMeaning n.at.link (past_after past steps) }
 {
     links_account();
     links_rest();

@@ -1,11 +1,11 @@
 //! Stations: a link with its port, and its gate if it has one.
 
 ghost use Rattle.std.specs.Prelude.{◌≡◌, true, false, not, [], ◌∷◌, IfOk, IfErr, List};
-ghost use Rattle.dmr_core.specs.declared.event.Event.{Event as AnEvent};
 ghost use Rattle.dmr_wire.specs.Answers.{Reports, of_connect, of_wait};
 ghost use Rattle.dmr_link.specs.Sessions.{Session, new_session, HasPast, IsOver, Serves, Cuts};
 ghost use Rattle.dmr_link.specs.LinkSteps.{is_live};
-ghost use Rattle.dmr_desk.specs.Work.{StationState, Answers, ChangesLink, HasRefused, sides_at};
+ghost use Rattle.dmr_link.specs.Desks.{HasRefused};
+ghost use Rattle.dmr_desk.specs.Work.{StationState, Answers, ChangesLink, sides_at};
 
 use dmr_link::{ConsoleLink, Desk, Ended, Gate, Link, TermOver};
 use dmr_wire::{Connect, Port, Waited};
@@ -77,8 +77,7 @@ pub trait Serving {
         ensures cuts { Cuts (state self.old).link (state self.new).link (D.calls desk.old)
             (D.calls desk.new) }
         ensures done { IfOk result (λ _. IsOver (state self.new).link) }
-        ensures over { IfErr result (λ over. (before : _) × (event : AnEvent)
-            × D.refuses before event over desk.new) };
+        ensures over { IfErr result (λ over. HasRefused D.Desk desk.new) };
 
     /// Reports to the port how the link's connection was closed.
     fn report_closing(&mut self)

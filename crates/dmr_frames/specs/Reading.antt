@@ -1,5 +1,5 @@
 -- The result of each octet, for the rest before it.
-use Rattle.std.specs.Prelude.{◌≡◌, ℕ, ◌+◌, Bool, List, [], ◌∷◌, ◌++◌, length, nat_lt, ◌==◌, not}
+use Rattle.std.specs.Prelude.{◌≡◌, ℕ, ◌+◌, ◌≤◌, Bool, List, [], ◌∷◌, ◌++◌, length, nat_lt, ◌==◌, not, take}
 use Rattle.std.specs.Prelude.{Option, Some, None, is_some, if◌then◌else◌}
 use Rattle.std.specs.List.{flat_map, fold, scan}
 use Rattle.dmr_frames.specs.declared.frame.FrameIn.{FrameIn}
@@ -79,3 +79,11 @@ ProduceAtLast rest (x ∷ y ∷ octets) step =
 -- the rest after octets
 abbrev pub rest_after_octets : Rest → List ℕ → Rest
 rest_after_octets rest octets = fold rest_after_octet rest octets
+
+-- the first `count` of these octets are taken: up to the end of the next frame, up to a fault, or all of them. The last of
+-- them has this step
+pub record CutsPiece (old new : Rest) (octets : List ℕ) (count : ℕ) (step : Step) : Type 0 where
+  pub within : count ≤ length octets
+  pub whole : step ≡ Need → count ≡ length octets
+  pub last : ProduceAtLast old (take count octets) step
+  pub rest : new ≡ rest_after_octets old (take count octets)

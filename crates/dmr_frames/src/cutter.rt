@@ -14,8 +14,7 @@ ghost use Rattle.dmr_frames.specs.declared.frame.FrameIn.{FrameIn};
 ghost use Rattle.dmr_frames.specs.declared.version.FrameTable.{FrameTable};
 ghost use Rattle.dmr_frames.specs.declared.version.Version.{Version};
 ghost use Rattle.dmr_frames.specs.Stream.{Reads};
-ghost use Rattle.dmr_frames.specs.Reading.{ProduceAtLast, frame_of, step_from, rest_after_octet};
-ghost use Rattle.dmr_frames.specs.Reading.{rest_after_octets};
+ghost use Rattle.dmr_frames.specs.Reading.{CutsPiece, frame_of, step_from, rest_after_octet};
 ghost use Rattle.dmr_frames.specs.Frames.{IsFrame, spelling, whole_step, hello_step, rx_step};
 ghost use Rattle.dmr_frames.specs.Frames.{burst_step, active_step};
 ghost use Rattle.dmr_frames.specs.Reading.{step_at, length_step, body_step};
@@ -127,10 +126,7 @@ impl Cutter {
     #[inline(always)]
     pub fn feed(&mut self, octets: &[u8]) -> (usize, Step)
         requires { 0 < length octets.now }
-        ensures count { result.0 ≤ length octets.now }
-        ensures all { result.1 ≡ Step.Need → result.0 ≡ length octets.now }
-        ensures step { ProduceAtLast self.old (take result.0 octets.now) result.1 }
-        ensures rest { self.new ≡ rest_after_octets self.old (take result.0 octets.now) }
+        ensures { CutsPiece self.old self.new octets.now result.0 result.1 }
     {
         if self.count == 0 && self.fault.is_none() {
             if let Some((count, frame)) = read_frame(self.table.version(), octets) {
@@ -144,10 +140,7 @@ impl Cutter {
     /// Does the same as [`Cutter::feed`], one octet after another.
     fn feed_one_by_one(&mut self, octets: &[u8]) -> (usize, Step)
         requires { 0 < length octets.now }
-        ensures count { result.0 ≤ length octets.now }
-        ensures all { result.1 ≡ Step.Need → result.0 ≡ length octets.now }
-        ensures step { ProduceAtLast self.old (take result.0 octets.now) result.1 }
-        ensures rest { self.new ≡ rest_after_octets self.old (take result.0 octets.now) }
+        ensures { CutsPiece self.old self.new octets.now result.0 result.1 }
     {
         let mut count = 0;
         for octet in octets {

@@ -14,16 +14,16 @@ use Rattle.dmr_core.specs.declared.event.Event.{Event}
 use Rattle.dmr_core.specs.declared.event.Event.TheVariants.{Heard, Poll, Tick, Say}
 use Rattle.dmr_core.specs.declared.act.Act.TheVariants.{Fill}
 use Rattle.dmr_core.specs.Facts.{Facts}
-use Rattle.dmr_access.specs.Fill.{fill_of}
+use Rattle.dmr_core.specs.Rules.{next_fill}
 use Rattle.dmr_core.specs.Rules.{acts_for_outbox, acts_for_slot, acts_of, answer_to_command, late_entry}
 use Rattle.dmr_core.specs.Words.{is_up, outbox}
 use Rattle.dmr_keeper.specs.Laws.{MayEndCalls, is_end}
 
 -- what a carrier is sent ends no call
 from_outbox : (plan : Settings) (facts : Facts) (slot : Slot) (pdus : List Pdu) → list_any is_end (acts_for_outbox plan facts slot pdus) ≡ false
-from_outbox plan facts slot [] = either (is_control plan slot)
+from_outbox plan facts slot [] = either (is_control plan.lists slot)
   where
-    either : (b : Bool) → list_any is_end (if b then Fill slot (fill_of plan facts.moving facts.noise facts.fills (late_entry plan facts)) ∷ [] else []) ≡ false
+    either : (b : Bool) → list_any is_end (if b then Fill slot (next_fill plan facts) ∷ [] else []) ≡ false
     either true = refl
     either false = refl
 from_outbox plan facts slot (pdu ∷ pdus) = refl
@@ -46,11 +46,11 @@ polled plan facts carrier = either (is_up facts carrier)
     either true = list_any-append is_end (acts_for_slot plan facts (record { carrier = carrier; slot = 0 })) (acts_for_slot plan facts (record { carrier = carrier; slot = 1 })) ∙ both
     either false = refl
 
+-- the last case is one for each of the other commands: it may end calls, or its answer has no such act
 by_command : (plan : Settings) (facts : Facts) (c : Command) → list_any is_end (acts_of plan facts (Say c)) ≡ true → MayEndCalls (Say c)
 unfolding answer_to_command
-by_command plan facts (command.Drop radio) has = tt
-by_command plan facts (command.End carrier slot) has = tt
-by_command plan facts _ has = absurd (false≢true has)
+by_command plan facts command.Stay has = cc
+by_command plan facts _ has = cc
 
 pub ends_by : (plan : Settings) (facts : Facts) (event : Event) → list_any is_end (acts_of plan facts event) ≡ true → MayEndCalls event
 ends_by plan facts Tick has = tt

@@ -65,10 +65,10 @@ counted_once plan ticks lines calls (entry ∷ journal) =
     let tick = tick_at ticks entry.event in
     let left = lines_after_entry plan tick lines entry in
     let then = open_after_entry tick lines calls entry in
-    let here = counted-entry plan.hang tick lines calls entry in
+    let here = counted-entry plan.calls.hang tick lines calls entry in
     let later = counted_once plan tick left then journal in
     let begun = length-append (flat_map begun_by entry.acts.list) (begun_in journal) in
-    let ended = length-append (ended_in_entry plan.hang tick lines calls entry) (ended_in plan tick left then journal) in
+    let ended = length-append (ended_in_entry plan.calls.hang tick lines calls entry) (ended_in plan tick left then journal) in
     omega (arith, here, later, begun, ended)
 
 -- ages
@@ -77,9 +77,9 @@ aged : (ticks : ℕ) (o : OpenCall) → HasAge ticks o → HasAge (ticks + 1) (o
 aged ticks o has = record { began = omega (arith, has.began); age = omega (arith, has.began, has.age) }
 
 stirred : (ticks : ℕ) (slot : Slot) (o : OpenCall) → HasAge ticks o → HasAge ticks (with_activity_on slot o)
-stirred ticks slot o has = either (is_slot o.standing.call.slot slot)
+stirred ticks slot o has = either (is_slot o.active.call.slot slot)
   where
-    either : (b : Bool) → HasAge ticks (record o { standing = cond b (record { call = o.standing.call; age = o.standing.age; quiet = 0 }) o.standing })
+    either : (b : Bool) → HasAge ticks (record o { active = cond b (record { call = o.active.call; age = o.active.age; quiet = 0 }) o.active })
     either true = record { began = has.began; age = has.age }
     either false = record { began = has.began; age = has.age }
 

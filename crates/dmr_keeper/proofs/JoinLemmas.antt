@@ -64,7 +64,7 @@ ended-append plan ticks lines calls (entry ∷ a) b =
     let tick = tick_at ticks entry.event in
     let left = lines_after_entry plan tick lines entry in
     let then = open_after_entry tick lines calls entry in
-    let here = ended_in_entry plan.hang tick lines calls entry in
+    let here = ended_in_entry plan.calls.hang tick lines calls entry in
     ap (λ (xs : List EndedCall). here ++ xs) (ended-append plan tick left then a b ∙ ap (λ n. ended_in plan tick left then a ++ ended_in plan n (lines_after plan tick left a) (open_after plan tick left then a) b) (ticks-cons ticks entry a))
     ∙ sym (append_assoc here (ended_in plan tick left then a) (ended_in plan (ticks + ticks_in (entry ∷ a)) (lines_after plan tick left a) (open_after plan tick left then a) b))
 

@@ -19,7 +19,7 @@ use Rattle.dmr_keeper.specs.Lines.{lines_after, lines_after_act, lines_after_ent
 use Rattle.dmr_keeper.specs.Ticks.{tick_at}
 use Rattle.dmr_keeper.specs.Calls.{one_tick_on, open_after, open_after_entry, open_by_act, open_by_event, with_activity_on}
 use Rattle.dmr_keeper.specs.Carried.{Carry, carried_after}
-use Rattle.dmr_keeper.specs.Laws.{IsOfFacts, IsWithinLimits, lines_in, standing_in}
+use Rattle.dmr_keeper.specs.Laws.{IsOfFacts, IsWithinLimits, lines_in, active_in}
 
 -- a fact, oldest entry first
 
@@ -44,8 +44,8 @@ since-reversed by_event by_act x (entry ∷ later) =
 
 -- calls
 
-abbrev standing_of : OpenCall → ActiveCall
-standing_of o = o.standing
+abbrev active_of : OpenCall → ActiveCall
+active_of o = o.active
 
 map-filter : {X Y : Type 0} (f : X → Y) (q : Y → Bool) (xs : List X) → map f (filter (λ x. q (f x)) xs) ≡ filter q (map f xs)
 map-filter f q [] = refl
@@ -59,31 +59,31 @@ map-both : {X Y : Type 0} (f : X → Y) (g : X → X) (h : Y → Y) → ((x : X)
 map-both f g h same [] = refl
 map-both f g h same (x ∷ xs) = rw (same x, map-both f g h same xs) refl
 
-standing-event : (calls : List OpenCall) (event : Event) → standing_in (open_by_event calls event) ≡ calls_by_event (standing_in calls) event
-standing-event calls (Up carrier) = map-filter standing_of (λ s. not (s.call.slot.carrier == carrier)) calls
-standing-event calls (Lost carrier) = map-filter standing_of (λ s. not (s.call.slot.carrier == carrier)) calls
-standing-event calls (Active slot) = map-both standing_of (with_activity_on slot) (with_activity slot) (λ o. refl) calls
-standing-event calls Tick = map-both standing_of one_tick_on one_tick_older (λ o. refl) calls
-standing-event calls _ = refl
+active-event : (calls : List OpenCall) (event : Event) → active_in (open_by_event calls event) ≡ calls_by_event (active_in calls) event
+active-event calls (Up carrier) = map-filter active_of (λ s. not (s.call.slot.carrier == carrier)) calls
+active-event calls (Lost carrier) = map-filter active_of (λ s. not (s.call.slot.carrier == carrier)) calls
+active-event calls (Active slot) = map-both active_of (with_activity_on slot) (with_activity slot) (λ o. refl) calls
+active-event calls Tick = map-both active_of one_tick_on one_tick_older (λ o. refl) calls
+active-event calls _ = refl
 
-standing-act : (tick : ℕ) (lines : List OpenLine) (calls : List OpenCall) (act : Act) → standing_in (open_by_act tick lines calls act) ≡ calls_by_act (standing_in calls) act
-standing-act tick lines calls (Began call) = map-append standing_of calls _
-standing-act tick lines calls (Ended slot) = map-filter standing_of (λ s. not (is_slot s.call.slot slot)) calls
-standing-act tick lines calls _ = refl
+active-act : (tick : ℕ) (lines : List OpenLine) (calls : List OpenCall) (act : Act) → active_in (open_by_act tick lines calls act) ≡ calls_by_act (active_in calls) act
+active-act tick lines calls (Began call) = map-append active_of calls _
+active-act tick lines calls (Ended slot) = map-filter active_of (λ s. not (is_slot s.call.slot slot)) calls
+active-act tick lines calls _ = refl
 
-standing-acts : (tick : ℕ) (lines : List OpenLine) (calls : List OpenCall) (acts : List Act) → standing_in (fold (open_by_act tick lines) calls acts) ≡ fold calls_by_act (standing_in calls) acts
-standing-acts tick lines calls [] = refl
-standing-acts tick lines calls (act ∷ acts) = standing-acts tick lines (open_by_act tick lines calls act) acts ∙ ap (λ (xs : List ActiveCall). fold calls_by_act xs acts) (standing-act tick lines calls act)
+active-acts : (tick : ℕ) (lines : List OpenLine) (calls : List OpenCall) (acts : List Act) → active_in (fold (open_by_act tick lines) calls acts) ≡ fold calls_by_act (active_in calls) acts
+active-acts tick lines calls [] = refl
+active-acts tick lines calls (act ∷ acts) = active-acts tick lines (open_by_act tick lines calls act) acts ∙ ap (λ (xs : List ActiveCall). fold calls_by_act xs acts) (active-act tick lines calls act)
 
-standing-entry : (tick : ℕ) (lines : List OpenLine) (calls : List OpenCall) (entry : Entry) → standing_in (open_after_entry tick lines calls entry) ≡ after_one calls_by_event calls_by_act (standing_in calls) entry
-standing-entry tick lines calls entry =
-    standing-acts tick lines (open_by_event calls entry.event) entry.acts.list ∙ ap (λ (xs : List ActiveCall). fold calls_by_act xs entry.acts.list) (standing-event calls entry.event)
+active-entry : (tick : ℕ) (lines : List OpenLine) (calls : List OpenCall) (entry : Entry) → active_in (open_after_entry tick lines calls entry) ≡ after_one calls_by_event calls_by_act (active_in calls) entry
+active-entry tick lines calls entry =
+    active-acts tick lines (open_by_event calls entry.event) entry.acts.list ∙ ap (λ (xs : List ActiveCall). fold calls_by_act xs entry.acts.list) (active-event calls entry.event)
 
-standing-journal : (plan : Settings) (ticks : ℕ) (lines : List OpenLine) (calls : List OpenCall) (journal : List Entry) → standing_in (open_after plan ticks lines calls journal) ≡ fold (after_one calls_by_event calls_by_act) (standing_in calls) journal
-standing-journal plan ticks lines calls [] = refl
-standing-journal plan ticks lines calls (entry ∷ later) =
+active-journal : (plan : Settings) (ticks : ℕ) (lines : List OpenLine) (calls : List OpenCall) (journal : List Entry) → active_in (open_after plan ticks lines calls journal) ≡ fold (after_one calls_by_event calls_by_act) (active_in calls) journal
+active-journal plan ticks lines calls [] = refl
+active-journal plan ticks lines calls (entry ∷ later) =
     let tick = tick_at ticks entry.event in
-    standing-journal plan tick (lines_after_entry plan tick lines entry) (open_after_entry tick lines calls entry) later ∙ ap (λ (xs : List ActiveCall). fold (after_one calls_by_event calls_by_act) xs later) (standing-entry tick lines calls entry)
+    active-journal plan tick (lines_after_entry plan tick lines entry) (open_after_entry tick lines calls entry) later ∙ ap (λ (xs : List ActiveCall). fold (after_one calls_by_event calls_by_act) xs later) (active-entry tick lines calls entry)
 
 -- lines
 
@@ -95,8 +95,8 @@ cleared true lines = refl
 cleared false lines = refl
 
 lines-event : (plan : Settings) (lines : List OpenLine) (event : Event) → lines_in (lines_after_event plan lines event) ≡ lines_by_event plan (lines_in lines) event
-lines-event plan lines (Up carrier) = cleared (carrier == plan.control) lines
-lines-event plan lines (Lost carrier) = cleared (carrier == plan.control) lines
+lines-event plan lines (Up carrier) = cleared (carrier == plan.lists.control) lines
+lines-event plan lines (Lost carrier) = cleared (carrier == plan.lists.control) lines
 lines-event plan lines _ = refl
 
 lines-act : (tick : ℕ) (lines : List OpenLine) (act : Act) → lines_in (lines_after_act tick lines act) ≡ lines_by_act (lines_in lines) act
@@ -123,7 +123,7 @@ lines-journal plan ticks lines (entry ∷ later) =
 pub stays_the_sites : (plan : Settings) (facts : Facts) (before : Carry) (journal : List Entry) → IsOfFacts before facts → IsOfFacts (carried_after plan before journal) (facts_after plan facts (reverse journal))
 stays_the_sites plan facts before journal is = record {
   calls =
-      standing-journal plan before.ticks before.lines before.calls journal
+      active-journal plan before.ticks before.lines before.calls journal
       ∙ ap (λ (xs : List ActiveCall). fold (after_one calls_by_event calls_by_act) xs journal) is.calls
       ∙ sym (since-reversed calls_by_event calls_by_act facts.calls journal);
   lines =
@@ -135,7 +135,7 @@ stays_the_sites plan facts before journal is = record {
 
 pub within_limits : (plan : Settings) (facts : Facts) (carry : Carry) → IsSound plan facts → IsOfFacts carry facts → IsWithinLimits carry
 within_limits plan facts carry sound is = record {
-  calls = omega (arith, length-map carry.calls standing_of, ap length is.calls, sound.few_calls);
-  lines = omega (arith, length-map carry.lines line_of, ap length is.lines, sound.few_lines);
-  registered = omega (arith, ap length is.registered, sound.few_radios);
+  calls = omega (arith, length-map carry.calls active_of, ap length is.calls, sound.calls.few);
+  lines = omega (arith, length-map carry.lines line_of, ap length is.lines, sound.lines.few);
+  registered = omega (arith, ap length is.registered, sound.radios.few);
 }

@@ -21,35 +21,35 @@ use Rattle.dmr_keeper.specs.Ticks.{tick_at}
 -- a call that begins at this tick, in an entry before which these lines waited
 abbrev pub begun_at : ℕ → List OpenLine → Call → OpenCall
 begun_at tick lines call = record {
-  standing = just_begun call;
+  active = just_begun call;
   began = tick;
   waited = waited_at tick lines call.source;
 }
 
 -- an open call after one more tick
 abbrev pub one_tick_on : OpenCall → OpenCall
-one_tick_on o = record o { standing = one_tick_older o.standing }
+one_tick_on o = record o { active = one_tick_older o.active }
 
 -- an open call after activity on a slot
 abbrev pub with_activity_on : Slot → OpenCall → OpenCall
-with_activity_on slot o = record o { standing = with_activity slot o.standing }
+with_activity_on slot o = record o { active = with_activity slot o.active }
 
 -- the call is on the slot
 abbrev pub is_on : Slot → OpenCall → Bool
-is_on slot o = is_slot o.standing.call.slot slot
+is_on slot o = is_slot o.active.call.slot slot
 
 -- the call is on a slot of the carrier
 abbrev pub is_of : ℕ → OpenCall → Bool
-is_of carrier o = o.standing.call.slot.carrier == carrier
+is_of carrier o = o.active.call.slot.carrier == carrier
 
 -- the record of a call that ends at this tick, in an entry with this event
 abbrev pub ended_at : ℕ → Event → ℕ → OpenCall → EndedCall
 ended_at hang event tick o = record {
-  call = o.standing.call;
+  call = o.active.call;
   began = o.began;
   ended = tick;
   waited = o.waited;
-  cause = cause_of hang event o.standing;
+  cause = cause_of hang event o.active;
 }
 
 -- open calls after an event: a carrier's Up and Lost close its calls; Active marks the calls on its slot; a Tick is
@@ -112,7 +112,7 @@ open_after plan ticks lines calls (entry ∷ later) =
 abbrev pub ended_in : Settings → ℕ → List OpenLine → List OpenCall → List Entry → List EndedCall
 ended_in plan ticks lines calls [] = []
 ended_in plan ticks lines calls (entry ∷ later) =
-    ended_in_entry plan.hang (tick_at ticks entry.event) lines calls entry
+    ended_in_entry plan.calls.hang (tick_at ticks entry.event) lines calls entry
     ++ ended_in plan (tick_at ticks entry.event)
     (lines_after_entry plan (tick_at ticks entry.event) lines entry)
     (open_after_entry (tick_at ticks entry.event) lines calls entry) later

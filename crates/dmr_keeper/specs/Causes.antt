@@ -15,7 +15,7 @@ use Rattle.dmr_keeper.specs.declared.cause.EndCause.TheVariants.{CarrierLost}
 abbrev pub cause_by_age : ℕ → ActiveCall → EndCause
 cause_by_age hang s = if nat_le hang s.quiet then HangTime else Maximum
 
--- of an operator's commands, `drop` and `end` alone end calls
+-- of an operator's commands that end calls, `drop` ends those of the radio that it drops
 abbrev pub cause_by_command : Command → EndCause
 cause_by_command (Drop radio) = Dropped
 cause_by_command _ = EndedByOperator

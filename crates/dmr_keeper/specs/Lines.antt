@@ -20,8 +20,8 @@ waited_at tick lines radio =
 
 -- the lines after an event: the control carrier's Up and Lost close all
 abbrev pub lines_after_event : Settings → List OpenLine → Event → List OpenLine
-lines_after_event plan lines (Up c) = if c == plan.control then [] else lines
-lines_after_event plan lines (Lost c) = if c == plan.control then [] else lines
+lines_after_event plan lines (Up c) = if c == plan.lists.control then [] else lines
+lines_after_event plan lines (Lost c) = if c == plan.lists.control then [] else lines
 lines_after_event plan lines _ = lines
 
 -- the lines after an act at this tick: Lined adds one, Unlined removes that of a radio

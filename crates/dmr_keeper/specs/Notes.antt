@@ -1,18 +1,13 @@
 -- Notes: carriers that come up or are lost, radios that join calls, refused requests, and operators' commands that
 -- change the site.
-use Rattle.std.specs.Prelude.{ℕ, ◌++◌, List, [], ◌∷◌, ◌==◌, Bool, false, if◌then◌else◌, Option, Some}
+use Rattle.std.specs.Prelude.{ℕ, ◌++◌, List, Bool, false, if◌then◌else◌, Option, Some}
 use Rattle.std.specs.Prelude.{None, filter_map, find, option_map}
-use Rattle.std.specs.List.{list_any}
 use Rattle.std.specs.Option.{option_and_then, option_to_list}
 use Rattle.dmr_plan.specs.declared.settings.Settings.{Settings}
 use Rattle.dmr_pdu.specs.declared.pdu.Pdu.{Pdu}
 use Rattle.dmr_pdu.specs.declared.pdu.Pdu.TheVariants.{Ackd, Random, TvGrant}
-use Rattle.dmr_pdu.specs.Reasons.{not_supported, perm_user_refused, transient_sys_refused}
-use Rattle.dmr_pdu.specs.Reasons.{noreg_ms_away, sysbusy_refused, call_cancel_refused, reg_refused}
-use Rattle.dmr_pdu.specs.Reasons.{reg_denied, ms_not_registered, called_party_busy}
-use Rattle.dmr_pdu.specs.Reasons.{group_not_allowed}
+use Rattle.dmr_pdu.specs.Reasons.{refuses}
 use Rattle.dmr_core.specs.declared.command.Command.{Command}
-use Rattle.dmr_core.specs.declared.command.Command.TheVariants as command
 use Rattle.dmr_core.specs.declared.reply.Reply.{Reply}
 use Rattle.dmr_core.specs.declared.reply.Reply.TheVariants as reply
 use Rattle.dmr_core.specs.declared.event.Event.{Event}
@@ -21,24 +16,19 @@ use Rattle.dmr_core.specs.declared.act.Act.{Act}
 use Rattle.dmr_core.specs.declared.act.Act.TheVariants.{Queue}
 use Rattle.dmr_core.specs.declared.act.Acts.{Acts}
 use Rattle.dmr_core.specs.declared.entry.Entry.{Entry}
+use Rattle.dmr_core.specs.CommandWords.{row_of}
 use Rattle.dmr_core.specs.Late.{carrier_on}
 use Rattle.dmr_keeper.specs.declared.notes.Outcome.{Outcome}
 use Rattle.dmr_keeper.specs.declared.notes.Outcome.TheVariants as outcome
 use Rattle.dmr_keeper.specs.declared.notes.Occurrence.{Occurrence}
 use Rattle.dmr_keeper.specs.declared.notes.Occurrence.TheVariants.{CameUp, WasLost, JoinedCall}
-use Rattle.dmr_keeper.specs.declared.notes.Occurrence.TheVariants.{Refused, DropCommand}
-use Rattle.dmr_keeper.specs.declared.notes.Occurrence.TheVariants.{EndCommand, MoveCommand}
-use Rattle.dmr_keeper.specs.declared.notes.Occurrence.TheVariants.{StayCommand}
+use Rattle.dmr_keeper.specs.declared.notes.Occurrence.TheVariants.{Refused, Commanded}
 use Rattle.dmr_keeper.specs.declared.notes.Note.{Note}
 use Rattle.dmr_keeper.specs.Ticks.{told_along}
 
 -- what a command with this result is noted as, if it is one that changes the site
 abbrev pub occurrence_of_command : Command → Outcome → Option Occurrence
-occurrence_of_command (command.Drop radio) o = Some (DropCommand radio o)
-occurrence_of_command (command.End carrier slot) o = Some (EndCommand carrier slot o)
-occurrence_of_command (command.Move channel) o = Some (MoveCommand channel o)
-occurrence_of_command command.Stay o = Some (StayCommand o)
-occurrence_of_command _ o = None
+occurrence_of_command c o = if (row_of c).changes_site then Some (Commanded c o) else None
 
 -- the result of a command that changes the site, by its reply
 abbrev pub outcome_of : Reply → Option Outcome
@@ -87,21 +77,10 @@ occurrence_by_event plan (Heard slot pdu) answer = occurrence_by_request plan pd
 occurrence_by_event plan (Say c) answer = occurrence_by_command c answer.said
 occurrence_by_event plan _ answer = None
 
--- the reasons of acknowledgements that refuse a request
-abbrev pub refusals : List ℕ
-refusals =
-    not_supported ∷ perm_user_refused ∷ transient_sys_refused ∷ noreg_ms_away ∷ sysbusy_refused
-    ∷ call_cancel_refused ∷ reg_refused ∷ reg_denied ∷ ms_not_registered ∷ called_party_busy
-    ∷ group_not_allowed ∷ []
-
--- an acknowledgement with this reason refuses a request
-abbrev pub is_refusal : ℕ → Bool
-is_refusal reason = list_any (λ r. r == reason) refusals
-
 -- what an act is noted as: the acknowledgement of a refusal, to the source of the request, about its target
 abbrev pub occurrence_by_act : Act → Option Occurrence
 occurrence_by_act (Queue slot (Ackd info reason spare target additional)) =
-    if is_refusal reason then Some (Refused target additional reason) else None
+    if refuses reason then Some (Refused target additional reason) else None
 occurrence_by_act _ = None
 
 -- the note of an occurrence, if there is one

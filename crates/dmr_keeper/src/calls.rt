@@ -1,18 +1,20 @@
 //! Calls that are open, and calls that ended.
 
 ghost use Rattle.std.specs.Prelude.{◌≡◌, map};
-ghost use Rattle.dmr_keeper.specs.Calls.{begun_at, with_activity_on, one_tick_on};
+ghost use Rattle.dmr_keeper.specs.Calls.{begun_at, ended_at as ended_call_at};
+ghost use Rattle.dmr_keeper.specs.Calls.{one_tick_on, with_activity_on};
 
-use crate::cause::EndCause;
+use crate::cause::{EndCause, cause_of};
 use crate::lines::{OpenLine, waited_at};
 use dmr_calls::{ActiveCall, Call};
+use dmr_core::Event;
 use dmr_pdu::Slot;
 
 /// A call that began and has not ended.
 #[derive(Clone, Copy, Debug, PartialEq, Eq)]
 pub struct OpenCall {
     /// The call, with its age and its quiet time as the site counts them.
-    pub standing: ActiveCall,
+    pub active: ActiveCall,
     /// The tick at which it began, counted over all terms.
     pub began: u64,
     /// How many ticks its request waited in line for a slot; 0 if it was given one at once.
@@ -40,7 +42,7 @@ impl OpenCall {
         ensures { result ≡ begun_at tick lines.now call.now }
     {
         OpenCall {
-            standing: ActiveCall {
+            active: ActiveCall {
                 call: *call,
                 age: 0,
                 quiet: 0,
@@ -55,13 +57,12 @@ impl OpenCall {
         ensures { result ≡ one_tick_on self.now }
     {
         OpenCall {
-            standing: ActiveCall {
-                call: self.standing.call,
-                age: self.standing.age.saturating_add(1),
-                quiet: self.standing.quiet.saturating_add(1),
+            active: ActiveCall {
+                age: self.active.age.saturating_add(1),
+                quiet: self.active.quiet.saturating_add(1),
+                ..self.active
             },
-            began: self.began,
-            waited: self.waited,
+            ..*self
         }
     }
 
@@ -69,18 +70,29 @@ impl OpenCall {
     fn marked(&self, slot: &Slot) -> OpenCall
         ensures { result ≡ with_activity_on slot.now self.now }
     {
-        if self.standing.call.slot == *slot {
+        if self.active.call.slot == *slot {
             OpenCall {
-                standing: ActiveCall {
-                    call: self.standing.call,
-                    age: self.standing.age,
+                active: ActiveCall {
                     quiet: 0,
+                    ..self.active
                 },
-                began: self.began,
-                waited: self.waited,
+                ..*self
             }
         } else {
             *self
+        }
+    }
+
+    /// The record of the call if it ends at this tick, in an entry with this event.
+    pub(crate) fn ended_at(&self, hang: u16, event: &Event, tick: u64) -> EndedCall
+        ensures { result ≡ ended_call_at hang event.now tick self.now }
+    {
+        EndedCall {
+            call: self.active.call,
+            began: self.began,
+            ended: tick,
+            waited: self.waited,
+            cause: cause_of(hang, event, &self.active),
         }
     }
 }

@@ -19,7 +19,7 @@ pub enum EndCause {
     RadioLeft,
     /// An operator dropped a radio that took part in it: the command `drop`.
     Dropped,
-    /// An operator ended it: the command `end`.
+    /// An operator ended it by another command, such as `end`.
     EndedByOperator,
     /// Its carrier was lost, or came up again.
     CarrierLost,
@@ -27,10 +27,10 @@ pub enum EndCause {
 
 /// The cause of a call's end in an answer to a Tick. The call ends at the hang time if it is reached, else at the
 /// maximum.
-fn cause_by_age(hang: u16, standing: &ActiveCall) -> EndCause
-    ensures { result ≡ age_cause hang standing.now }
+fn cause_by_age(hang: u16, active: &ActiveCall) -> EndCause
+    ensures { result ≡ age_cause hang active.now }
 {
-    if standing.quiet >= hang {
+    if active.quiet >= hang {
         EndCause::HangTime
     } else {
         EndCause::Maximum
@@ -43,27 +43,20 @@ fn cause_by_command(command: &Command) -> EndCause
 {
     match command {
         Command::Drop(_) => EndCause::Dropped,
-        Command::Status
-        | Command::Radios(_)
-        | Command::Calls(_)
-        | Command::Lines(_)
-        | Command::Slots
-        | Command::End(_, _)
-        | Command::Move(_)
-        | Command::Stay => EndCause::EndedByOperator,
+        _ => EndCause::EndedByOperator,
     }
 }
 
 /// The cause of the end of a call in an entry with this event.
-pub fn cause_of(hang: u16, event: &Event, standing: &ActiveCall) -> EndCause
-    ensures { result ≡ cause hang event.now standing.now }
+pub fn cause_of(hang: u16, event: &Event, active: &ActiveCall) -> EndCause
+    ensures { result ≡ cause hang event.now active.now }
 {
     match event {
         Event::Up(_) | Event::Lost(_) => EndCause::CarrierLost,
         Event::Heard(_, _) => EndCause::RadioLeft,
         Event::Say(command) => cause_by_command(command),
         Event::Noise(_) | Event::Active(_) | Event::Poll(_) | Event::Tick => cause_by_age(
-            hang, standing,
+            hang, active,
         ),
     }
 }

@@ -7,42 +7,28 @@ ghost use Rattle.dmr_keeper.specs.Calls.{open_after_entry, open_by_act, open_by_
 ghost use Rattle.dmr_keeper.specs.Closing.{is_covered};
 
 use crate::calls::{EndedCall, OpenCall, count_tick, mark_active};
-use crate::cause::cause_of;
 use crate::lines::OpenLine;
 use dmr_core::{Act, Entry, Event};
 use dmr_pdu::{CarrierNo, OutOfMemory, Slot};
 
 /// The calls that end together.
 #[derive(Clone, Copy, Debug)]
-pub enum Closing {
+pub enum EndingCalls {
     /// Those on a slot.
     OnSlot(Slot),
     /// Those on the slots of a carrier.
     OfCarrier(CarrierNo),
 }
 
-impl Closing {
+impl EndingCalls {
     /// Reports whether the call is one of them.
     fn covers(&self, call: &OpenCall) -> bool
         ensures { result ≡ is_covered self.now call.now }
     {
         match self {
-            Closing::OnSlot(slot) => call.standing.call.slot == *slot,
-            Closing::OfCarrier(carrier) => call.standing.call.slot.carrier == *carrier,
+            EndingCalls::OnSlot(slot) => call.active.call.slot == *slot,
+            EndingCalls::OfCarrier(carrier) => call.active.call.slot.carrier == *carrier,
         }
-    }
-}
-
-/// The record of a call that ends at this tick, in an entry with this event.
-fn ended_at(hang: u16, event: &Event, tick: u64, call: &OpenCall) -> EndedCall
-    ensures { result ≡ ended_call_at hang event.now tick call.now }
-{
-    EndedCall {
-        call: call.standing.call,
-        began: call.began,
-        ended: tick,
-        waited: call.waited,
-        cause: cause_of(hang, event, &call.standing),
     }
 }
 
@@ -51,7 +37,7 @@ fn add_ended(
     hang: u16,
     event: &Event,
     tick: u64,
-    closing: &Closing,
+    closing: &EndingCalls,
     calls: &[OpenCall],
     ended: &mut Vec<EndedCall>,
 ) -> Result<(), OutOfMemory>
@@ -60,14 +46,14 @@ fn add_ended(
 {
     for call in calls {
         if closing.covers(call) {
-            ended.push(ended_at(hang, event, tick, call))?;
+            ended.push(call.ended_at(hang, event, tick))?;
         }
     }
     Ok(())
 }
 
 /// Removes the calls that end.
-fn remove_ended(closing: &Closing, calls: &mut Vec<OpenCall>)
+fn remove_ended(closing: &EndingCalls, calls: &mut Vec<OpenCall>)
     ensures { calls.new.items ≡ filter (λ o. not (is_covered closing.now o)) calls.old.items }
 {
     calls.retain(|call| !closing.covers(call));
@@ -78,7 +64,7 @@ fn end_calls(
     hang: u16,
     event: &Event,
     tick: u64,
-    closing: &Closing,
+    closing: &EndingCalls,
     calls: &mut Vec<OpenCall>,
     ended: &mut Vec<EndedCall>,
 ) -> Result<(), OutOfMemory>
@@ -111,7 +97,7 @@ fn apply_event(
                 hang,
                 event,
                 tick,
-                &Closing::OfCarrier(*carrier),
+                &EndingCalls::OfCarrier(*carrier),
                 calls,
                 ended,
             )?;
@@ -139,7 +125,14 @@ fn apply_act(
 {
     match act {
         Act::Began(call) => calls.push(OpenCall::begun(call, tick, lines))?,
-        Act::Ended(slot) => end_calls(hang, event, tick, &Closing::OnSlot(*slot), calls, ended)?,
+        Act::Ended(slot) => end_calls(
+            hang,
+            event,
+            tick,
+            &EndingCalls::OnSlot(*slot),
+            calls,
+            ended,
+        )?,
         Act::Queue(_, _)
         | Act::Send(_, _)
         | Act::Fill(_, _)

@@ -18,7 +18,7 @@
 //! open or began, and [`few_events_end_calls`] that the causes are all.
 //!
 //! A [`Recorder`] reads the records of one term after another, each with its [`TermTime`]: when it ended, and how long
-//! its ticks are. An [`Outbox`] has the records that wait, and hands them over to a store, oldest term first.
+//! its ticks are. An [`RecordQueue`] has the records that wait, and hands them over to a store, oldest term first.
 //!
 //! A [`Keeper`] stores records. [`Forget`] keeps nothing, and [`InMemory`] keeps them for a test. A store on a disk is
 //! outside of this crate.
@@ -36,7 +36,7 @@ mod laws;
 mod lines;
 mod memory;
 mod notes;
-mod outbox;
+mod record_queue;
 mod recorder;
 mod records;
 mod registered;
@@ -55,7 +55,7 @@ pub use laws::{calls_are_counted_once, carried_is_the_sites, few_events_end_call
 pub use lines::OpenLine;
 pub use memory::InMemory;
 pub use notes::{Note, Occurrence, Outcome};
-pub use outbox::{MOST_WAITING, Outbox};
+pub use record_queue::{MOST_WAITING, RecordQueue};
 pub use recorder::Recorder;
 pub use records::{Records, RecordsFault, records_of};
 pub use time::{TermTime, TimedRecords};

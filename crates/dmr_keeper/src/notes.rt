@@ -3,7 +3,7 @@
 ghost use Rattle.std.specs.Prelude.{◌≡◌, ◌+◌, ◌<◌, ◌^◌, ◌++◌, filter_map, find, IfOk, OnOk};
 ghost use Rattle.std.specs.Option.{option_to_list};
 ghost use Rattle.dmr_core.specs.Late.{carrier_on as carrier_by_channel};
-ghost use Rattle.dmr_keeper.specs.Notes.{is_late_grant as grants_late, is_refusal as refuses};
+ghost use Rattle.dmr_keeper.specs.Notes.{is_late_grant as grants_late};
 ghost use Rattle.dmr_keeper.specs.Notes.{note_by_act, note_if, notes_in, notes_in_entry};
 ghost use Rattle.dmr_keeper.specs.Notes.{occurrence_by_act, occurrence_by_command};
 ghost use Rattle.dmr_keeper.specs.Notes.{occurrence_by_event, occurrence_by_grant};
@@ -60,31 +60,10 @@ pub enum Occurrence {
         /// The reason code of the acknowledgement.
         reason: Reason,
     },
-    /// An operator sent `drop`, to end the registration of a radio and what engages it.
-    DropCommand {
-        /// The radio.
-        radio: Address,
-        /// The result.
-        outcome: Outcome,
-    },
-    /// An operator sent `end`, to end the call on a slot of a carrier.
-    EndCommand {
-        /// The carrier.
-        carrier: CarrierNo,
-        /// The slot of the carrier.
-        slot: SlotNo,
-        /// The result.
-        outcome: Outcome,
-    },
-    /// An operator sent `move`, to move the control channel.
-    MoveCommand {
-        /// The channel to move it to.
-        channel: Lpcn,
-        /// The result.
-        outcome: Outcome,
-    },
-    /// An operator sent `stay`, to end the move.
-    StayCommand {
+    /// An operator sent a command that changes the site.
+    Commanded {
+        /// The command.
+        command: Command,
         /// The result.
         outcome: Outcome,
     },
@@ -103,26 +82,13 @@ pub struct Note {
 fn occurrence_of_command(command: &Command, outcome: Outcome) -> Option<Occurrence>
     ensures { result ≡ commanded command.now outcome }
 {
-    match command {
-        Command::Drop(radio) => Some(Occurrence::DropCommand {
-            radio: *radio,
+    if command.changes_site() {
+        Some(Occurrence::Commanded {
+            command: *command,
             outcome,
-        }),
-        Command::End(carrier, slot) => Some(Occurrence::EndCommand {
-            carrier: *carrier,
-            slot: *slot,
-            outcome,
-        }),
-        Command::Move(channel) => Some(Occurrence::MoveCommand {
-            channel: *channel,
-            outcome,
-        }),
-        Command::Stay => Some(Occurrence::StayCommand { outcome }),
-        Command::Status
-        | Command::Radios(_)
-        | Command::Calls(_)
-        | Command::Lines(_)
-        | Command::Slots => None,
+        })
+    } else {
+        None
     }
 }
 
@@ -231,28 +197,6 @@ fn occurrence_of_event(plan: &Plan, event: &Event, answer: &Acts) -> Option<Occu
     }
 }
 
-/// The reasons of acknowledgements that refuse a request.
-const REFUSALS: [Reason; 11] = [
-    Reason::NOT_SUPPORTED,
-    Reason::PERM_USER_REFUSED,
-    Reason::TRANSIENT_SYS_REFUSED,
-    Reason::NOREG_MS_AWAY,
-    Reason::SYSBUSY_REFUSED,
-    Reason::CALL_CANCEL_REFUSED,
-    Reason::REG_REFUSED,
-    Reason::REG_DENIED,
-    Reason::MS_NOT_REGISTERED,
-    Reason::CALLED_PARTY_BUSY,
-    Reason::GROUP_NOT_ALLOWED,
-];
-
-/// Reports whether an acknowledgement with this reason refuses a request.
-pub fn is_refusal(reason: &Reason) -> bool
-    ensures { result ≡ refuses reason.now }
-{
-    REFUSALS.iter().any(|refusal| *refusal == *reason)
-}
-
 /// What an act is noted as: a refusal is one that queues an acknowledgement with such a reason.
 pub fn occurrence_of_act(act: &Act) -> Option<Occurrence>
     ensures { result ≡ occurrence_by_act act.now }
@@ -269,7 +213,7 @@ pub fn occurrence_of_act(act: &Act) -> Option<Occurrence>
     else {
         return None;
     };
-    if is_refusal(reason) {
+    if reason.is_refusal() {
         Some(Occurrence::Refused {
             source: *target,
             target: *additional,

@@ -79,7 +79,7 @@ impl Recorder {
         ensures records { OnOk result (IsSomeAnd self.new.newest
             (λ term. AreRecords plan.now self.old.carried journal.now term.records)) }
         ensures time { OnOk result (IsSomeAnd self.new.newest
-            (λ term. term.time ≡ record { ended = ended; tick_ms = plan.now.tick_ms })) }
+            (λ term. term.time ≡ record { ended = ended; tick_ms = plan.now.serving.tick_ms })) }
         ensures carried { OnOk result
             (self.new.carried ≡ carried_after plan.now self.old.carried journal.now) }
         ensures same { OnErr result (self.new ≡ self.old) }

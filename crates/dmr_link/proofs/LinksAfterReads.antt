@@ -12,23 +12,14 @@ use Rattle.dmr_wire.specs.declared.closing.Closing.TheVariants as closing
 use Rattle.dmr_link.specs.declared.stream.Peer.{Peer}
 use Rattle.dmr_link.specs.declared.stream.Stream.{Stream}
 use Rattle.dmr_link.specs.declared.link_state.LinkState.{LinkState}
-use Rattle.dmr_link.specs.Meaning.{list_of_notice}
+use Rattle.dmr_link.specs.Notices.{list_of_notice}
 use Rattle.dmr_link.specs.Session.{events_in, event_in}
 use Rattle.dmr_link.specs.Peers.{meaning_from, left_from, text_onward, next_onward, text_to_peer, peer_notice_text, up_of, all_produce, left_after, closes_by}
-use Rattle.dmr_link.specs.Sessions.{How, Going, InputOver, ReadFaulty, WriteFaulty, CutAfter, Session, with_came, with_taken, how_then, with_how, closed_by, kept_of, lost_of, notices_waiting, IsClosed, IsLeftBy, IsQuiet}
+use Rattle.dmr_link.specs.Sessions.{Going, InputOver, ReadFaulty, WriteFaulty, Session, with_came, with_taken, how_then, with_how, closed_by, kept_of, lost_of, notices_waiting, IsClosed, IsLeftBy, IsQuiet}
 use Rattle.dmr_link.specs.LinkSteps.{closed_as, kept_then, peer_notice_of, closing_then, state_after}
 use Rattle.dmr_link.proofs.ClosingsByOctets.{closes_how, closing_more}
-use Rattle.dmr_link.proofs.TextsGrow.{events_of, text_quiet, next_quiet, text_aside, next_aside, text_nothing, next_nothing, meaning_more, left_more, meaning_end, next_of}
-use Rattle.dmr_link.proofs.LinksAfterSteps.{session}
-
--- while a link is quiet, its connection has not ended
-by_going : (l : LinkState) → IsQuiet l → (s : Session) (P : How → Type 0) → (IsLeftBy l (session s.came s.taken Going s.is_cut s.calls) → P Going) → (how : How) → IsLeftBy l (session s.came s.taken how s.is_cut s.calls) → P how
-by_going l quiet s P here Going h = here h
-by_going l quiet s P here InputOver h = absurd (quiet.stays h.place.1)
-by_going l quiet s P here ReadFaulty h = absurd (quiet.stays h.place.1)
-by_going l quiet s P here WriteFaulty h = absurd (quiet.stays h.place.0)
-by_going l quiet s P here (CutAfter n false) h = absurd (quiet.stays h.place.1)
-by_going l quiet s P here (CutAfter n true) h = absurd (quiet.stays h.place.1)
+use Rattle.dmr_link.proofs.TextsGrow.{events_of, text_quiet, next_quiet, text_alone, next_alone, text_nothing, next_nothing, meaning_more, left_more, meaning_end, next_of}
+use Rattle.dmr_link.proofs.LinksAfterSteps.{by_going, session}
 
 -- ---- a piece of unread octets is processed
 
@@ -55,12 +46,12 @@ peer_only_none (Some (Refused c r)) = refl
 peer_only_none (Some (Rejected fault)) = refl
 
 -- a notice for the peer alone is not kept
-aside_alone : (n : Option Notice) (it : Notice) → peer_notice_of n ≡ Some it → n ≡ Some it
-aside_alone None it is = cc
-aside_alone (Some (Happened e)) it is = cc
-aside_alone (Some (Accepted c version)) it is = cc
-aside_alone (Some (Refused c r)) it is = is
-aside_alone (Some (Rejected fault)) it is = is
+alone_is : (n : Option Notice) (it : Notice) → peer_notice_of n ≡ Some it → n ≡ Some it
+alone_is None it is = cc
+alone_is (Some (Happened e)) it is = cc
+alone_is (Some (Accepted c version)) it is = cc
+alone_is (Some (Refused c r)) it is = is
+alone_is (Some (Rejected fault)) it is = is
 
 kept_none : (n : Option Notice) (it : Notice) → peer_notice_of n ≡ Some it → kept_then None n ≡ None
 kept_none None it is = refl
@@ -74,8 +65,8 @@ next_nowhere : (who : Peer) (next : Option ℕ) (n : Option Notice) → next_onw
 next_nowhere who next None = next_nothing who next
 next_nowhere who next (Some (Happened e)) = next_nothing who next
 next_nowhere who next (Some (Accepted c version)) = next_nothing who next
-next_nowhere who next (Some (Refused c r)) = next_aside who next (Refused c r)
-next_nowhere who next (Some (Rejected fault)) = next_aside who next (Rejected fault)
+next_nowhere who next (Some (Refused c r)) = next_alone who next (Refused c r)
+next_nowhere who next (Some (Rejected fault)) = next_alone who next (Rejected fault)
 
 module _ (l : LinkState) (xs : List ℕ) (it : Option Notice) (rest : List ℕ) (head : l.unread ≡ xs ++ rest) (brings : all_produce l.connection xs ≡ list_of_notice it) (quiet : IsQuiet l) where
   -- the notices that are done, and the one that is kept, after the piece
@@ -151,7 +142,7 @@ module _ (l : LinkState) (xs : List ℕ) (it : Option Notice) (rest : List ℕ) 
         text_to_peer l.who (done ++ n ∷ []) calls ≡ text_to_peer l.who done calls ++ peer_notice_text n
     spelled read done calls next at lost means events =
         text_quiet l.who done (n ∷ []) calls events
-        ∙ ap (λ (t : List ℕ). text_to_peer l.who done calls ++ t) (text_aside l.who (next_onward l.who None done calls) n (next_of l.who (read ++ xs) done [] n (until read done next at lost means)))
+        ∙ ap (λ (t : List ℕ). text_to_peer l.who done calls ++ t) (text_alone l.who (next_onward l.who None done calls) n (next_of l.who (read ++ xs) done [] n (until read done next at lost means)))
 
     reported_all : (came taken : List ℕ) (cut : Bool) (calls : List Deposit) →
         IsLeftBy l (session came taken Going cut calls) → IsLeftBy (state_after l xs it rest) (session came (taken ++ peer_notice_text n) Going cut calls)

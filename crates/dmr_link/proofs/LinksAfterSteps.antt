@@ -19,7 +19,7 @@ use Rattle.dmr_link.specs.CarrierStates.{state_on}
 use Rattle.dmr_link.specs.Meaning.{left_by_octets}
 use Rattle.dmr_link.specs.Session.{events_in}
 use Rattle.dmr_link.specs.Peers.{meaning_from, left_from, text_onward, next_onward, text_to_peer, answer_text, next_after_answer, up_of, is_going, numbered, numbering_of}
-use Rattle.dmr_link.specs.Sessions.{How, Going, InputOver, ReadFaulty, WriteFaulty, CutAfter, Session, with_taken, how_then, with_how, with_calls, closed_by, kept_of, lost_of, notices_waiting, IsLeftBy, IsQuiet, IsOn}
+use Rattle.dmr_link.specs.Sessions.{How, Going, InputOver, ReadFaulty, WriteFaulty, CutAfter, Session, with_taken, how_then, with_how, with_calls, closed_by, has_ended, kept_of, lost_of, notices_waiting, IsAt, IsLeftBy, IsOn, IsQuiet, IsTaken}
 use Rattle.dmr_link.specs.LinkSteps.{closed_as, with_next, with_pending}
 use Rattle.dmr_link.proofs.TextsGrow.{IsOwn, events_of, events_more, text-append, text_event, next_event, text_lost, text_extra, meaning_end, next_of, lost_own}
 
@@ -47,6 +47,38 @@ means_kept l e ns done kept means =
     means
     ∙ ap (λ (k : Option SiteNotice). done ++ (kept_of k ++ lost_of l.pending.lost)) kept
     ∙ sym (append_assoc done (site_notice e ∷ []) (lost_of l.pending.lost))
+
+-- ---- how a connection has ended, or not
+
+-- while a link is quiet, its connection has not ended
+pub by_going : (l : LinkState) → IsQuiet l → (s : Session) (P : How → Type 0) →
+    (IsLeftBy l (session s.came s.taken Going s.is_cut s.calls) → P Going) → (how : How) →
+    IsLeftBy l (session s.came s.taken how s.is_cut s.calls) → P how
+by_going l quiet s P here Going h = here h
+by_going l quiet s P here InputOver h = absurd (quiet.stays h.place.1)
+by_going l quiet s P here ReadFaulty h = absurd (quiet.stays h.place.1)
+by_going l quiet s P here WriteFaulty h = absurd (quiet.stays h.place.0)
+by_going l quiet s P here (CutAfter n false) h = absurd (quiet.stays h.place.1)
+by_going l quiet s P here (CutAfter n true) h = absurd (quiet.stays h.place.1)
+
+-- nor has it while the link keeps an event and was not cut
+by_kept : (l : LinkState) (e : SiteNotice) → l.pending.kept ≡ Some e → l.is_cut ≡ false → (s : Session) (P : How → Type 0) →
+    (IsLeftBy l (session s.came s.taken Going s.is_cut s.calls) → P Going) → (how : How) →
+    IsLeftBy l (session s.came s.taken how s.is_cut s.calls) → P how
+by_kept l e kept is s P here Going h = here h
+by_kept l e kept is s P here InputOver h = let e1 = h.place.2 in absurd (cc (e1, kept))
+by_kept l e kept is s P here ReadFaulty h = let e1 = h.place.2 in absurd (cc (e1, kept))
+by_kept l e kept is s P here WriteFaulty h = let e1 = h.place.1 in absurd (cc (e1, kept))
+by_kept l e kept is s P here (CutAfter n false) h = let e1 = h.place.2 in absurd (cc (e1, is))
+by_kept l e kept is s P here (CutAfter n true) h = let e1 = h.place.2 in absurd (cc (e1, is))
+
+pub left_open : (l : LinkState) → IsQuiet l → (s : Session) → IsLeftBy l s → IsOn s
+left_open l quiet s h =
+    by_going l quiet s (λ how. (how ≡ Going) × (s.is_cut ≡ false)) (λ h. (refl, sym h.cut ∙ h.place.3)) s.how h
+
+pub left_kept : (l : LinkState) (e : SiteNotice) → l.pending.kept ≡ Some e → l.is_cut ≡ false → (s : Session) → IsLeftBy l s → IsOn s
+left_kept l e kept is s h =
+    by_kept l e kept is s (λ how. (how ≡ Going) × (s.is_cut ≡ false)) (λ h. (refl, sym h.cut ∙ is)) s.how h
 
 -- ---- the number of the next TX
 
@@ -111,14 +143,9 @@ module _ (l : LinkState) (e : SiteNotice) (acts : Acts) (kept : l.pending.kept �
       next_of l.who read done (lost_of l.pending.lost) (site_notice e) (means ∙ ap (λ (k : Option SiteNotice). done ++ (kept_of k ++ lost_of l.pending.lost)) kept)
 
   -- the answer is written
-  answered : (came taken : List ℕ) (how : How) (cut : Bool) (calls : List Deposit) → l.is_cut ≡ false →
-      IsLeftBy l (session came taken how cut calls) → IsLeftBy (replied l e acts) (session came (taken ++ answer_text (numbering_of l.connection) e acts) how cut (calls ++ deposit (event_of_notice e) acts ∷ []))
-  answered came taken InputOver cut calls is h = let e1 = h.place.2 in absurd (cc (e1, kept))
-  answered came taken ReadFaulty cut calls is h = let e1 = h.place.2 in absurd (cc (e1, kept))
-  answered came taken WriteFaulty cut calls is h = let e1 = h.place.1 in absurd (cc (e1, kept))
-  answered came taken (CutAfter n false) cut calls is h = let e1 = h.place.2 in absurd (cc (e1, is))
-  answered came taken (CutAfter n true) cut calls is h = let e1 = h.place.2 in absurd (cc (e1, is))
-  answered came taken Going cut calls is h = record {
+  answered : (came taken : List ℕ) (cut : Bool) (calls : List Deposit) → IsLeftBy l (session came taken Going cut calls) →
+      IsLeftBy (replied l e acts) (session came (taken ++ answer_text (numbering_of l.connection) e acts) Going cut (calls ++ deposit (event_of_notice e) acts ∷ []))
+  answered came taken cut calls h = record {
     read = h.read;
     behind = h.behind;
     done = h.done ++ site_notice e ∷ [];
@@ -142,18 +169,15 @@ module _ (l : LinkState) (e : SiteNotice) (acts : Acts) (kept : l.pending.kept �
   }
 
   pub left_answered : (s : Session) → l.is_cut ≡ false → IsLeftBy l s → IsLeftBy (replied l e acts) (with_taken (with_calls s (deposit (event_of_notice e) acts ∷ [])) (answer_text (numbering_of l.connection) e acts))
-  left_answered s is h = answered s.came s.taken s.how s.is_cut s.calls is h
+  left_answered s is h =
+      by_kept l e kept is s (λ how. IsLeftBy (replied l e acts) (session s.came (s.taken ++ answer_text (numbering_of l.connection) e acts) how s.is_cut (s.calls ++ deposit (event_of_notice e) acts ∷ [])))
+      (answered s.came s.taken s.is_cut s.calls) s.how h
 
   -- the write of the answer fails
   module _ (part : List ℕ) (octet : ℕ) (missing : List ℕ) (short : part ++ octet ∷ missing ≡ answer_text (numbering_of l.connection) e acts) where
-    broken : (came taken : List ℕ) (how : How) (cut : Bool) (calls : List Deposit) → l.is_cut ≡ false →
-        IsLeftBy l (session came taken how cut calls) → IsLeftBy (closed_as (unkept l) closing.WriteFailed) (session came (taken ++ part) (how_then how WriteFaulty) cut (calls ++ deposit (event_of_notice e) acts ∷ []))
-    broken came taken InputOver cut calls is h = let e1 = h.place.2 in absurd (cc (e1, kept))
-    broken came taken ReadFaulty cut calls is h = let e1 = h.place.2 in absurd (cc (e1, kept))
-    broken came taken WriteFaulty cut calls is h = let e1 = h.place.1 in absurd (cc (e1, kept))
-    broken came taken (CutAfter n false) cut calls is h = let e1 = h.place.2 in absurd (cc (e1, is))
-    broken came taken (CutAfter n true) cut calls is h = let e1 = h.place.2 in absurd (cc (e1, is))
-    broken came taken Going cut calls is h =
+    broken : (came taken : List ℕ) (cut : Bool) (calls : List Deposit) → l.is_cut ≡ false → IsLeftBy l (session came taken Going cut calls) →
+        IsLeftBy (closed_as (unkept l) closing.WriteFailed) (session came (taken ++ part) WriteFaulty cut (calls ++ deposit (event_of_notice e) acts ∷ []))
+    broken came taken cut calls is h =
         let until : meaning_from l.who h.read false ≡ h.done ++ site_notice e ∷ [] =
         h.means ∙ (λ i. h.done ++ (kept_of (kept i) ++ lost_of (h.place.2 i))) in
         let events : events_in (h.done ++ site_notice e ∷ []) ≡ events_of (calls ++ deposit (event_of_notice e) acts ∷ []) = events_more h.done calls e acts h.events in
@@ -193,7 +217,9 @@ module _ (l : LinkState) (e : SiteNotice) (acts : Acts) (kept : l.pending.kept �
         }
 
     pub left_broken : (s : Session) → l.is_cut ≡ false → IsLeftBy l s → IsLeftBy (closed_as (unkept l) closing.WriteFailed) (with_how (with_taken (with_calls s (deposit (event_of_notice e) acts ∷ [])) part) WriteFaulty)
-    left_broken s is h = broken s.came s.taken s.how s.is_cut s.calls is h
+    left_broken s is h =
+        by_kept l e kept is s (λ how. IsLeftBy (closed_as (unkept l) closing.WriteFailed) (session s.came (s.taken ++ part) (how_then how WriteFaulty) s.is_cut (s.calls ++ deposit (event_of_notice e) acts ∷ [])))
+        (broken s.came s.taken s.is_cut s.calls is) s.how h
 
 -- ---- the Lost that must follow an Up is handed in
 
@@ -208,108 +234,64 @@ module _ (l : LinkState) (c : ℕ) (acts : Acts) (lost : l.pending.lost ≡ Some
   own : (read : List ℕ) (done : List Notice) → meaning_from l.who read true ≡ done ++ notices_waiting l → IsOwn l.who (Happened (Lost c))
   own read done means = lost_own l.who read done c (means ∙ (λ i. done ++ (kept_of (none i) ++ lost_of (lost i))))
 
+  -- what it took, by how the connection ended
+  taken_lost : (how : How) (read taken : List ℕ) (done : List Notice) (calls : List Deposit) → events_in done ≡ events_of calls →
+      IsOwn l.who (Happened (Lost c)) → IsTaken l.who how read done taken calls →
+      IsTaken l.who how read (done ++ Happened (Lost c) ∷ []) taken (calls ++ deposit (Lost c) acts ∷ [])
+  taken_lost Going read taken done calls same mine took = took ∙ sym (text_lost l.who done calls c acts same mine)
+  taken_lost InputOver read taken done calls same mine took = took ∙ sym (text_lost l.who done calls c acts same mine)
+  taken_lost ReadFaulty read taken done calls same mine took = took ∙ sym (text_lost l.who done calls c acts same mine)
+  taken_lost (CutAfter n false) read taken done calls same mine took = took ∙ sym (text_lost l.who done calls c acts same mine)
+  taken_lost (CutAfter n true) read taken done calls same mine took = (took.0, took.1 ∙ sym (text_lost l.who done calls c acts same mine))
+  taken_lost WriteFaulty read taken done calls same mine took = record {
+    before = took.before;
+    last = took.last;
+    more = took.more ++ Happened (Lost c) ∷ [];
+    first = took.first;
+    later = took.later ++ deposit (Lost c) acts ∷ [];
+    part = took.part;
+    octet = took.octet;
+    missing = took.missing;
+    means = took.means;
+    reached =
+        ap (λ (ns : List Notice). ns ++ Happened (Lost c) ∷ []) took.reached
+        ∙ append_assoc (took.before ++ took.last ∷ []) took.more (Happened (Lost c) ∷ []);
+    split =
+        ap (λ (ds : List Deposit). ds ++ deposit (Lost c) acts ∷ []) took.split
+        ∙ append_assoc took.first took.later (deposit (Lost c) acts ∷ []);
+    events = took.events;
+    whole = took.whole;
+    short = took.short;
+  }
+
+  -- the state of the link, by how the connection ended: it has ended, since a Lost is pending
+  place_lost : (how : How) (read : List ℕ) (next new : Option ℕ) (behind : List ℕ) → IsAt how l read next behind →
+      (has_ended how ≡ true) × IsAt how (unlost l) read new behind
+  place_lost Going read next new behind place = let e1 = place.2 in absurd (cc (e1, lost))
+  place_lost InputOver read next new behind place = (refl, place)
+  place_lost ReadFaulty read next new behind place = (refl, place)
+  place_lost WriteFaulty read next new behind place = (refl, place)
+  place_lost (CutAfter n false) read next new behind place = (refl, place)
+  place_lost (CutAfter n true) read next new behind place = (refl, place)
+
   over : (came taken : List ℕ) (how : How) (cut : Bool) (calls : List Deposit) →
       IsLeftBy l (session came taken how cut calls) → IsLeftBy (unlost l) (session came taken how cut (calls ++ deposit (Lost c) acts ∷ []))
-  over came taken Going cut calls h = let e1 = h.place.2 in absurd (cc (e1, lost))
-  over came taken InputOver cut calls h = record {
-    read = h.read;
-    behind = h.behind;
-    done = h.done ++ Happened (Lost c) ∷ [];
-    came = h.came;
-    means = means_lost (meaning_from l.who h.read true) h.done h.means;
-    events = events_more h.done calls (site.Happened (Lost c)) acts h.events;
-    taken = h.taken ∙ sym (text_lost l.who h.done calls c acts h.events (own h.read h.done h.means));
-    place = h.place;
-    cut = h.cut;
-    why = h.why;
-  }
-  over came taken ReadFaulty cut calls h = record {
-    read = h.read;
-    behind = h.behind;
-    done = h.done ++ Happened (Lost c) ∷ [];
-    came = h.came;
-    means = means_lost (meaning_from l.who h.read true) h.done h.means;
-    events = events_more h.done calls (site.Happened (Lost c)) acts h.events;
-    taken = h.taken ∙ sym (text_lost l.who h.done calls c acts h.events (own h.read h.done h.means));
-    place = h.place;
-    cut = h.cut;
-    why = h.why;
-  }
-  over came taken (CutAfter n false) cut calls h = record {
-    read = h.read;
-    behind = h.behind;
-    done = h.done ++ Happened (Lost c) ∷ [];
-    came = h.came;
-    means = means_lost (meaning_from l.who h.read true) h.done h.means;
-    events = events_more h.done calls (site.Happened (Lost c)) acts h.events;
-    taken = h.taken ∙ sym (text_lost l.who h.done calls c acts h.events (own h.read h.done h.means));
-    place = h.place;
-    cut = h.cut;
-    why = h.why;
-  }
-  over came taken (CutAfter n true) cut calls h = record {
-    read = h.read;
-    behind = h.behind;
-    done = h.done ++ Happened (Lost c) ∷ [];
-    came = h.came;
-    means = means_lost (meaning_from l.who h.read true) h.done h.means;
-    events = events_more h.done calls (site.Happened (Lost c)) acts h.events;
-    taken = (h.taken.0, h.taken.1 ∙ sym (text_lost l.who h.done calls c acts h.events (own h.read h.done h.means)));
-    place = h.place;
-    cut = h.cut;
-    why = h.why;
-  }
-  over came taken WriteFaulty cut calls h = record {
-    read = h.read;
-    behind = h.behind;
-    done = h.done ++ Happened (Lost c) ∷ [];
-    came = h.came;
-    means = means_lost (meaning_from l.who h.read true) h.done h.means;
-    events = events_more h.done calls (site.Happened (Lost c)) acts h.events;
-    taken = record {
-      before = h.taken.before;
-      last = h.taken.last;
-      more = h.taken.more ++ Happened (Lost c) ∷ [];
-      first = h.taken.first;
-      later = h.taken.later ++ deposit (Lost c) acts ∷ [];
-      part = h.taken.part;
-      octet = h.taken.octet;
-      missing = h.taken.missing;
-      means = h.taken.means;
-      reached = ap (λ (ns : List Notice). ns ++ Happened (Lost c) ∷ []) h.taken.reached ∙ append_assoc (h.taken.before ++ h.taken.last ∷ []) h.taken.more (Happened (Lost c) ∷ []);
-      split = ap (λ (ds : List Deposit). ds ++ deposit (Lost c) acts ∷ []) h.taken.split ∙ append_assoc h.taken.first h.taken.later (deposit (Lost c) acts ∷ []);
-      events = h.taken.events;
-      whole = h.taken.whole;
-      short = h.taken.short;
-    };
-    place = h.place;
-    cut = h.cut;
-    why = h.why;
-  }
+  over came taken how cut calls h =
+      let placed = place_lost how h.read _ _ h.behind h.place in
+      let mine : IsOwn l.who (Happened (Lost c)) =
+      own h.read h.done (ap (meaning_from l.who h.read) (sym placed.0) ∙ h.means) in
+      record {
+        read = h.read;
+        behind = h.behind;
+        done = h.done ++ Happened (Lost c) ∷ [];
+        came = h.came;
+        means = means_lost (meaning_from l.who h.read (has_ended how)) h.done h.means;
+        events = events_more h.done calls (site.Happened (Lost c)) acts h.events;
+        taken = taken_lost how h.read taken h.done calls h.events mine h.taken;
+        place = placed.1;
+        cut = h.cut;
+        why = h.why;
+      }
 
   pub left_over : (s : Session) → IsLeftBy l s → IsLeftBy (unlost l) (with_calls s (deposit (Lost c) acts ∷ []))
   left_over s h = over s.came s.taken s.how s.is_cut s.calls h
-
--- ---- a connection that is open, or has an event that is kept and may be answered, has neither ended nor been cut
-
-open_on : (l : LinkState) → IsQuiet l → (came taken : List ℕ) (how : How) (cut : Bool) (calls : List Deposit) → IsLeftBy l (session came taken how cut calls) → (how ≡ Going) × (cut ≡ false)
-open_on l quiet came taken Going cut calls h = (refl, sym h.cut ∙ h.place.3)
-open_on l quiet came taken InputOver cut calls h = absurd (quiet.stays h.place.1)
-open_on l quiet came taken ReadFaulty cut calls h = absurd (quiet.stays h.place.1)
-open_on l quiet came taken WriteFaulty cut calls h = absurd (quiet.stays h.place.0)
-open_on l quiet came taken (CutAfter n false) cut calls h = absurd (quiet.stays h.place.1)
-open_on l quiet came taken (CutAfter n true) cut calls h = absurd (quiet.stays h.place.1)
-
-pub left_open : (l : LinkState) → IsQuiet l → (s : Session) → IsLeftBy l s → IsOn s
-left_open l quiet s h = open_on l quiet s.came s.taken s.how s.is_cut s.calls h
-
-kept_on : (l : LinkState) (e : SiteNotice) → l.pending.kept ≡ Some e → l.is_cut ≡ false → (came taken : List ℕ) (how : How) (cut : Bool) (calls : List Deposit) → IsLeftBy l (session came taken how cut calls) → (how ≡ Going) × (cut ≡ false)
-kept_on l e kept is came taken Going cut calls h = (refl, sym h.cut ∙ is)
-kept_on l e kept is came taken InputOver cut calls h = let e1 = h.place.2 in absurd (cc (e1, kept))
-kept_on l e kept is came taken ReadFaulty cut calls h = let e1 = h.place.2 in absurd (cc (e1, kept))
-kept_on l e kept is came taken WriteFaulty cut calls h = let e1 = h.place.1 in absurd (cc (e1, kept))
-kept_on l e kept is came taken (CutAfter n false) cut calls h = let e1 = h.place.2 in absurd (cc (e1, is))
-kept_on l e kept is came taken (CutAfter n true) cut calls h = let e1 = h.place.2 in absurd (cc (e1, is))
-
-pub left_kept : (l : LinkState) (e : SiteNotice) → l.pending.kept ≡ Some e → l.is_cut ≡ false → (s : Session) → IsLeftBy l s → IsOn s
-left_kept l e kept is s h = kept_on l e kept is s.came s.taken s.how s.is_cut s.calls h

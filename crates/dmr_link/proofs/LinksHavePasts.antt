@@ -24,7 +24,7 @@ use Rattle.dmr_link.specs.declared.link_state.LinkState.{LinkState}
 use Rattle.dmr_frames.specs.declared.frame.Cause.{Cause}
 use Rattle.dmr_link.specs.Closing.{ended_of}
 use Rattle.dmr_link.specs.Happenings.{Happening, Answered, Deposited, Passed, answers_in, deposits_in, Outside, Disordered, stage_after_all, stage_at}
-use Rattle.dmr_link.specs.Moves.{Moves}
+use Rattle.dmr_link.specs.Moves.{Moves, moment}
 use Rattle.dmr_link.specs.Passages.{Passage}
 use Rattle.dmr_link.specs.Peers.{meaning_from, text_to_peer, opened_for, is_going, up_of, left_from, next_onward}
 use Rattle.dmr_link.specs.Sessions.{How, Going, InputOver, ReadFaulty, WriteFaulty, CutAfter, Session, new_session, with_how, with_calls, Progress, progress_at, in_writing, progress_after_answer, progress_after_answers, reads_in, IsTaken, kept_of, lost_of, notices_waiting, closed_by, IsClosed, IsAt, IsLeftBy, IsOver, WasServed, HasPast, sessions_after, is_kept, is_lost, cut_session, cut_past, EndsAs, Sides, sides, Serves, Cuts, progress_after_all, has_ended}
@@ -331,7 +331,12 @@ no_answers answers tells =
     let none : h.0 ≡ [] = cc in
     sym (h.2 ∙ ap (λ (r : List Answer). r ++ answers) none)
 
-cut_has_past : (l new : LinkState) (calls later : List Deposit) → is_live l ≡ true → (m : Moves (cut_state l) new (sides (Some []) calls None) (sides (Some []) later None) 0 0 0 Disordered Disordered) →
+-- the link moves after a cut, before a port that reported no answer
+abbrev Unseen : LinkState → LinkState → List Deposit → List Deposit → Type 0
+Unseen l new calls later =
+    Moves (moment (cut_state l) (sides (Some []) calls None) 0 Disordered) (moment new (sides (Some []) later None) 0 Disordered) 0
+
+cut_has_past : (l new : LinkState) (calls later : List Deposit) → is_live l ≡ true → (m : Unseen l new calls later) →
     (past : List Session) → HasPast l past → HasPast new (cut_past l past (deposits_in m.happened))
 cut_has_past l new calls later live m [] h = never l h.0 live
 cut_has_past l new calls later live m (s ∷ ss) h =
@@ -347,9 +352,10 @@ cut_has_past l new calls later live m (s ∷ ss) h =
     )
 
 pub cuts : (l new : LinkState) (calls later : List Deposit) → is_live l ≡ true →
-    ((reported : Option (List Answer)) (passed : Option (List Passage)) → Moves (cut_state l) new (sides reported calls passed) (sides reported later passed) 0 0 0 Disordered Disordered) → Cuts l new calls later
+    ((reported : Option (List Answer)) (passed : Option (List Passage)) → Moves (moment (cut_state l) (sides reported calls passed) 0 Disordered) (moment new (sides reported later passed) 0 Disordered) 0) →
+    Cuts l new calls later
 cuts l new calls later live moves =
-    let m : Moves (cut_state l) new (sides (Some []) calls None) (sides (Some []) later None) 0 0 0 Disordered Disordered = moves (Some []) None in
+    let m : Unseen l new calls later = moves (Some []) None in
     record {
       same = m.same;
       deposits = deposits_in m.happened;

@@ -28,7 +28,8 @@ use Rattle.dmr_link.specs.declared.stream.Peer.TheVariants.{Carrier}
 use Rattle.dmr_link.specs.declared.stream.Stream.{Stream}
 use Rattle.dmr_link.specs.declared.stream.Stream.TheVariants as stream
 use Rattle.dmr_link.specs.declared.link_state.LinkState.{LinkState}
-use Rattle.dmr_link.specs.Meaning.{is_accepted, is_last, is_repeat, newest_after, event_of, refusal_of_first, list_of_notice, meaning_of_octets, left_by_octets}
+use Rattle.dmr_link.specs.Meaning.{is_accepted, is_last, is_repeat, newest_after, event_of, refusal_of_first, meaning_of_octets, left_by_octets}
+use Rattle.dmr_link.specs.Notices.{list_of_notice}
 use Rattle.dmr_link.specs.Notices.{Notice, Happened, Accepted, Refused, Rejected}
 use Rattle.dmr_link.specs.Numbering.{next_after, first_number, next_after_frames}
 use Rattle.dmr_link.specs.Peers.{entry_of_deposit, next_onward, left_from, meaning_from}

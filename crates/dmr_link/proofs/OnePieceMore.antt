@@ -6,7 +6,7 @@ use Rattle.dmr_frames.specs.declared.frame.FrameOut.{FrameOut}
 use Rattle.dmr_link.specs.declared.connection.CarrierIdentity.{CarrierIdentity}
 use Rattle.dmr_link.specs.declared.connection.Connection.{Connection}
 use Rattle.dmr_link.specs.Answering.{facts_after_notice, site_after_notices}
-use Rattle.dmr_link.specs.Meaning.{list_of_notice}
+use Rattle.dmr_link.specs.Notices.{list_of_notice}
 use Rattle.dmr_link.specs.Notices.{Notice}
 use Rattle.dmr_link.specs.Numbering.{frames_text, next_after_frames}
 use Rattle.dmr_link.specs.Room.{most_in, numbered_after_all}

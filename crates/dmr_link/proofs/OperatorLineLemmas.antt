@@ -13,7 +13,7 @@ use Rattle.dmr_core.specs.State.{SiteState as Site}
 use Rattle.dmr_link.specs.Notices.{Notice}
 use Rattle.dmr_link.specs.Answering.{facts_from, site_after_notices, facts_after_notice}
 use Rattle.dmr_link.specs.Console.{line_means, said_from, ends_in, console_from}
-use Rattle.dmr_link.specs.Meaning.{list_of_notice}
+use Rattle.dmr_link.specs.Notices.{list_of_notice}
 use Rattle.dmr_link.proofs.PiecesInTwo.{console_from-append}
 
 -- ---- the notices of octets

@@ -60,15 +60,15 @@ who_cases c greatest who (Some row) e =
     (row, refl, sym (ap (λ (w : CarrierIdentity). w.carrier) same), sym (ap (λ (w : CarrierIdentity). w.lpcn) same), sym (ap (λ (w : CarrierIdentity). w.greatest) same))
 
 pub who_carrier : (plan : Settings) (c : ℕ) (who : CarrierIdentity) → who_of plan c ≡ Some who → who.carrier ≡ c
-who_carrier plan c who e = (who_cases c (greatest_of plan) who (row_with plan.carriers c) e).2
+who_carrier plan c who e = (who_cases c (greatest_of plan) who (row_with plan.lists.carriers c) e).2
 
 pub who_greatest : (plan : Settings) (c : ℕ) (who : CarrierIdentity) → who_of plan c ≡ Some who → who.greatest ≡ greatest_of plan
-who_greatest plan c who e = (who_cases c (greatest_of plan) who (row_with plan.carriers c) e).4
+who_greatest plan c who e = (who_cases c (greatest_of plan) who (row_with plan.lists.carriers c) e).4
 
 pub who_small : (plan : Settings) (c : ℕ) (who : CarrierIdentity) → IsPlan plan → who_of plan c ≡ Some who → IsSmall c who
 who_small plan c who is e =
-    let found = who_cases c (greatest_of plan) who (row_with plan.carriers c) e in
-    let small : (c < 16) × (found.0.lpcn < 65536) = row_small plan.carriers c found.0 is.carriers.each found.1 in
+    let found = who_cases c (greatest_of plan) who (row_with plan.lists.carriers c) e in
+    let small : (c < 16) × (found.0.lpcn < 65536) = row_small plan.lists.carriers c found.0 is.lists.carriers.each found.1 in
     let lpcn_is : who.lpcn ≡ found.0.lpcn = found.3 in
     let small_lpcn : found.0.lpcn < 65536 = small.1 in
     record { number = small.0; carrier = found.2; lpcn = omega arith }

@@ -22,7 +22,8 @@ use Rattle.dmr_frames.specs.Versions.{has_numbers, table_after, version_of}
 use Rattle.dmr_link.specs.declared.connection.CarrierIdentity.{CarrierIdentity}
 use Rattle.dmr_link.specs.declared.connection.Connection.{Connection}
 use Rattle.dmr_link.specs.declared.connection.Connection.TheVariants.{Closed, Waiting, Running}
-use Rattle.dmr_link.specs.Meaning.{event_of, event_of_burst, is_last, is_repeat, list_of_notice, newest_after}
+use Rattle.dmr_link.specs.Meaning.{event_of, event_of_burst, is_last, is_repeat, newest_after}
+use Rattle.dmr_link.specs.Notices.{list_of_notice}
 use Rattle.dmr_link.specs.Notices.{Happened}
 use Rattle.dmr_link.specs.Room.{most_at, most_in, numbered_after_all}
 use Rattle.dmr_link.specs.Steps.{connection_after_octet, notice_of_octet, notices_of_octets, running_produces, running_leaves}

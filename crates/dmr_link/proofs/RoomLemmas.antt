@@ -9,7 +9,7 @@ use Rattle.dmr_frames.specs.declared.frame.FrameOut.TheVariants.{Tx}
 use Rattle.dmr_link.specs.Numbering.{frame_text}
 use Rattle.dmr_link.specs.declared.connection.CarrierIdentity.{CarrierIdentity}
 use Rattle.dmr_link.specs.declared.connection.Connection.{Connection}
-use Rattle.dmr_link.specs.Meaning.{list_of_notice}
+use Rattle.dmr_link.specs.Notices.{list_of_notice}
 use Rattle.dmr_link.specs.Notices.{Notice}
 use Rattle.dmr_link.specs.Room.{length_of_tx, most_in, most_to_poll, numbered_after_all}
 use Rattle.dmr_link.specs.Steps.{notices_of_octets, connection_after_octets}

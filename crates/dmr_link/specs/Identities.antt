@@ -9,7 +9,7 @@ use Rattle.dmr_link.specs.declared.connection.CarrierIdentity.{CarrierIdentity}
 
 -- the greatest version of the link that a plan's site serves
 abbrev pub greatest_of : Settings → Version
-greatest_of plan = named_or_first plan.link_version
+greatest_of plan = named_or_first plan.serving.link_version
 
 -- the identity of the plan's carrier with this number, if the plan has one
 abbrev pub who_of : Settings → ℕ → Option CarrierIdentity
@@ -17,4 +17,4 @@ who_of plan carrier = option_map (λ (row : CarrierRow). record {
   carrier = carrier;
   lpcn = row.lpcn;
   greatest = greatest_of plan;
-}) (row_with plan.carriers carrier)
+}) (row_with plan.lists.carriers carrier)

@@ -1,17 +1,18 @@
 -- The steps of a link. Only contracts inside this crate name these definitions, except `is_live` and `IsLinkNumbering`;
--- nothing above depends on the others.
+-- nothing above depends on the others. `Ghosts` of a trait is what an implementation of it shows to contracts.
 use Rattle.std.specs.Prelude.{◌≡◌, ℕ, ◌<◌, ◌≤◌, Bool, true, false, ◌||◌, List, [], ◌++◌, length}
-use Rattle.std.specs.Prelude.{Option, Some, None, Result, Ok, Err}
-use Rattle.dmr_core.specs.declared.event.Event.{Event}
+use Rattle.std.specs.Prelude.{Option, Some, None, Result, Ok, Err, IfErr}
 use Rattle.dmr_core.specs.declared.event.Event.TheVariants.{Lost}
 use Rattle.dmr_wire.specs.Answers.{Answer}
+use Rattle.dmr_wire.specs.declared.wire.Wire.{Ghosts as Wire}
+use Rattle.dmr_link.specs.declared.desk.Desk.{Ghosts as Desk}
+use Rattle.dmr_link.specs.declared.desk.Gate.{Ghosts as Gate}
 use Rattle.dmr_link.specs.Notices.{Notice}
 use Rattle.dmr_link.specs.Notices.{Happened, Accepted, Refused, Rejected}
 use Rattle.dmr_link.specs.declared.notices.SiteNotice.{SiteNotice}
 use Rattle.dmr_link.specs.declared.notices.SiteNotice.TheVariants as site
 use Rattle.dmr_wire.specs.declared.closing.Closing.{Closing}
 use Rattle.dmr_wire.specs.declared.closing.Closing.TheVariants.{Over, WriteFailed}
-use Rattle.dmr_link.specs.declared.desk.TermOver.{TermOver}
 use Rattle.dmr_link.specs.declared.ended.Ended.{Ended}
 use Rattle.dmr_link.specs.declared.ended.Ended.TheVariants as ended
 use Rattle.dmr_link.specs.declared.stream.Stream.{Stream}
@@ -19,16 +20,17 @@ use Rattle.dmr_link.specs.declared.stream.Stream.TheVariants as stream
 use Rattle.dmr_link.specs.declared.link_state.LinkState.{LinkState}
 use Rattle.dmr_link.specs.declared.pending.Pending.{Pending}
 use Rattle.dmr_link.specs.Closing.{ended_of}
-use Rattle.dmr_link.specs.Happenings.{Stage, Outside, Blocked, stage_at}
+use Rattle.dmr_link.specs.Happenings.{Stage, Outside, Blocked, stage_after, stage_at}
 use Rattle.dmr_link.specs.Limits.{most_interruptions, most_reads}
-use Rattle.dmr_link.specs.Moves.{Moves, WritesText}
+use Rattle.dmr_link.specs.Moves.{Moment, Moves, WritesText, moment}
 use Rattle.dmr_link.specs.Numbering.{first_number}
 use Rattle.dmr_link.specs.Sound.{IsNumberingOf}
 use Rattle.dmr_frames.specs.Versions.{version_octet}
-use Rattle.dmr_link.specs.Meaning.{list_of_notice}
+use Rattle.dmr_link.specs.Notices.{list_of_notice}
 use Rattle.dmr_link.specs.Peers.{opened_for, is_going, up_of, all_produce, left_after, closes_by}
 use Rattle.dmr_link.specs.Peers.{numbered}
-use Rattle.dmr_link.specs.Sessions.{Sides, IsQuiet, IsOver, is_kept, is_lost, is_pending}
+use Rattle.dmr_link.specs.Desks.{HasRefused, KeepsDesk}
+use Rattle.dmr_link.specs.Sessions.{Sides, IsQuiet, IsOver, is_kept, is_lost, is_pending, sides}
 
 -- the number of the next TX after the WELCOME that is kept, if one is, is written
 abbrev pub next_when_answered : Option SiteNotice → Option ℕ → Option ℕ
@@ -198,18 +200,44 @@ IsStop ended.Idle l = ⊥
 IsStop ended.Paused l = ⊥
 IsStop other l = IsOver l × (ended_of l.closing ≡ other)
 
--- what desk and gate say of the reason for which a step stopped. If the term is over, a desk refused an event, and was
--- this desk after that. If the gate is shut, a link tried to enter a gate that was shut, and was this gate after that
-abbrev pub HasReason : {D G : Type 0} → (D → Event → TermOver → D → Type 0) → D → (G → G → Type 0) → G → Ended → Type 0
-HasReason refuses desk shuts gate stop =
-    (stop ≡ ended.TermOver
-    → (before : _) × (event : Event) × (over : TermOver) × refuses before event over desk)
-    × (stop ≡ ended.GateShut → (before : _) × shuts before gate)
+-- what desk and gate say of the reason for which a step stopped. If the term is over, the desk refused an event. If the
+-- gate is shut, a link tried to enter a gate that was shut, and was this gate after that
+abbrev pub HasReason : {D G : Type 0} → Desk D → D → Gate G → G → Ended → Type 0
+HasReason its desk gating gate stop = (stop ≡ ended.TermOver → HasRefused its desk)
+    × (stop ≡ ended.GateShut → (before : _) × gating.shuts before gate)
+
+-- the moment of a call at which link, port, desk and gate are so
+abbrev pub moment_of : {W D G : Type 0} → Wire W → Desk D → Gate G → LinkState → W → D → G → ℕ
+    → Stage → Moment
+moment_of wire its gating link port desk gate row stage =
+    moment link (sides (wire.reported port) (its.calls desk) (gating.passed gate)) row stage
+
+-- a step of a call that reads nothing and may hand in events. It began with `link`, `port`, `desk` and `gate`, and left
+-- the others
+pub record Steps {W D G X : Type 0} (wire : Wire W) (its : Desk D) (gating : Gate G) (link : LinkState)
+    (port : W) (desk : D) (gate : G) (after : LinkState) (left : W) (later : D) (passed : G)
+    (result : Result X Ended) : Type 0 where
+  pub keeps : KeepsDesk its desk later
+  pub moves : Moves (moment_of wire its gating link port desk gate 0 Outside)
+      (moment_of wire its gating after left later passed 0 (stage_after result)) 0
+  pub why : IfErr result (HasReason its later gating passed)
 
 -- all events were handed in and the connection is open, or the step stopped
 abbrev pub IsSettled : {X : Type 0} → Result X Ended → LinkState → Type 0
 IsSettled (Ok done) l = IsQuiet l
 IsSettled (Err stop) l = IsStop stop l
+
+-- a step hands in all pending events, or stops. It processes no octet
+pub record HandsIn {W D G : Type 0} (wire : Wire W) (its : Desk D) (gating : Gate G) (link : LinkState)
+    (port : W) (desk : D) (gate : G) (after : LinkState) (left : W) (later : D) (passed : G)
+    (result : Result (Unit {0}) Ended) : Type 0 where
+  pub step : Steps wire its gating link port desk gate after left later passed result
+  pub stops : IsSettled result after
+  pub unread : after.unread ≡ link.unread
+
+-- a read may follow: the connection is open, everything is answered, and not too many reads in a row were interrupted
+abbrev pub MayRead : LinkState → ℕ → Type 0
+MayRead l row = IsQuiet l × (l.unread ≡ []) × (row ≤ most_interruptions)
 
 -- how many interruptions came last, in a row, after a read
 abbrev pub row_then : Option ℕ → ℕ
@@ -228,7 +256,7 @@ stage_then_read (Some row) = Outside
 
 -- the link after one turn: no notice is pending and all octets were processed, or the turn stopped
 abbrev pub HasTurned : Result ℕ Ended → LinkState → Type 0
-HasTurned (Ok row) l = IsQuiet l × (l.unread ≡ []) × (row ≤ most_interruptions)
+HasTurned (Ok row) l = MayRead l row
 HasTurned (Err ended.Idle) l = IsQuiet l × (l.unread ≡ [])
 HasTurned (Err stop) l = IsStop stop l
 
@@ -242,7 +270,7 @@ EndsBy stop l reads = IsStop stop l
 pub record Listens (old new : LinkState) (before after : Sides) (result : Ended) : Type 0 where
   pub row : ℕ
   pub reads : ℕ
-  pub moves : Moves old new before after 0 row reads Outside (stage_at result)
+  pub moves : Moves (moment old before 0 Outside) (moment new after row (stage_at result)) reads
   pub few : reads ≤ most_reads
   pub ends : EndsBy result new reads
 

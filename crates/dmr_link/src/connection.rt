@@ -1,12 +1,13 @@
 //! A carrier's connection, and the effect of its octets.
 
-ghost use Rattle.std.specs.Prelude.{◌≡◌, ◌<◌, ◌≤◌, Some, None, false, true, length, option_map};
+ghost use Rattle.std.specs.Prelude.{◌≡◌, ◌<◌, Some, None, false, true, length, option_map};
 ghost use Rattle.std.specs.Prelude.{take, IfErr, IfOk};
 ghost use Rattle.dmr_burst.specs.Functions.{meaning_of};
 ghost use Rattle.dmr_frames.specs.Versions.{chosen_by};
 ghost use Rattle.dmr_core.specs.declared.event.Event.TheVariants.{Lost};
 ghost use Rattle.dmr_frames.specs.declared.frame.FrameIn.TheVariants as frame;
-ghost use Rattle.dmr_link.specs.Meaning.{list_of_notice, event_of_burst as burst_event};
+ghost use Rattle.dmr_link.specs.Meaning.{IsPiece, event_of_burst as burst_event};
+ghost use Rattle.dmr_link.specs.Notices.{notices_meant};
 ghost use Rattle.dmr_link.specs.Meaning.{is_accepted, is_repeat as is_newest_repeat};
 ghost use Rattle.dmr_link.specs.Meaning.{refusal_of_first};
 ghost use Rattle.dmr_link.specs.CarrierStates.{is_open, up_by};
@@ -321,10 +322,9 @@ impl Connection {
     #[inline(always)]
     pub fn receive(&mut self, who: &CarrierIdentity, octets: &[u8]) -> (usize, Outcome)
         requires { 0 < length octets.now }
-        ensures some { 0 < result.0 }
-        ensures count { result.0 ≤ length octets.now }
+        ensures piece { IsPiece result.0 octets.now }
         ensures notice { notices_of_octets who.now self.old (take result.0 octets.now)
-            ≡ list_of_notice (option_map notice_meant result.1.notice) }
+            ≡ notices_meant result.1.notice }
         ensures closing { result.1.closing
             ≡ all_closes who.now self.old (take result.0 octets.now) }
         ensures connection { self.new

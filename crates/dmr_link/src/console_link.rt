@@ -1,13 +1,12 @@
 //! The operators' link serves the console's connections, one after another, between a port and a desk.
 
-ghost use Rattle.std.specs.Prelude.{◌≡◌, List, [], ◌∷◌, None, not, true, false, IfOk, IfErr};
-ghost use Rattle.dmr_core.specs.declared.event.Event.{Event as AnEvent};
+ghost use Rattle.std.specs.Prelude.{◌≡◌, List, [], None, not, true, false};
 ghost use Rattle.dmr_frames.specs.declared.frame.Cause.{Cause};
 ghost use Rattle.dmr_link.specs.Closing.{ended_of};
-ghost use Rattle.dmr_link.specs.Sessions.{Session, new_session, HasPast, IsOver, sides, Serves};
-ghost use Rattle.dmr_link.specs.Sessions.{Cuts};
+ghost use Rattle.dmr_link.specs.Cutting.{CutsOff, Opens};
+ghost use Rattle.dmr_link.specs.Desks.{HasRefused, KeepsDesk};
+ghost use Rattle.dmr_link.specs.Sessions.{Session, HasPast, sides, Serves};
 ghost use Rattle.dmr_link.specs.LinkSteps.{is_live};
-ghost use Rattle.dmr_link.specs.declared.desk.TermOver.{TermOver as ATermOver};
 ghost use Rattle.dmr_link.specs.declared.stream.Peer.TheVariants.{Operator};
 
 use crate::answers::Answer;
@@ -83,10 +82,7 @@ impl ConsoleLink {
     /// Begins a connection with no open line: the open line of an earlier connection has no effect. Returns `false` if
     /// the link is live, and nothing has changed then.
     pub fn open(&mut self) -> bool
-        ensures answer { result ≡ not (is_live self.old) }
-        ensures no { result ≡ false → self.new ≡ self.old }
-        ensures yes { result ≡ true → (past : List Session) → HasPast self.old past
-            → HasPast self.new (new_session ∷ past) }
+        ensures { Opens self.old self.new result }
     {
         if self.state.is_live() {
             return false;
@@ -102,14 +98,11 @@ impl ConsoleLink {
     /// or write again, at most [`MOST_INTERRUPTIONS`](crate::MOST_INTERRUPTIONS) times in a row. After a cut it neither
     /// reads nor writes.
     pub fn serve<W: Wire, D: Desk>(&mut self, port: &mut W, desk: &mut D) -> Ended
-        ensures actor { D.actor desk.new ≡ D.actor desk.old }
-        ensures questions { D.questions desk.new ≡ D.questions desk.old }
+        ensures keeps { KeepsDesk D.Desk desk.old desk.new }
         ensures serves { Serves self.old self.new
             (sides (W.reported port.old) (D.calls desk.old) None)
             (sides (W.reported port.new) (D.calls desk.new) None) result }
-        ensures over { result ≡ Ended.TermOver
-            → (before : _) × (event : AnEvent) × (over : ATermOver)
-            × D.refuses before event over desk.new }
+        ensures over { result ≡ Ended.TermOver → HasRefused D.Desk desk.new }
         ensures open { result ≡ Ended.GateShut → ⊥ }
         ensures no_cause { (cause : Cause) → result ≡ Ended.BadFrame cause → ⊥ }
         // A link that is not live returns how its connection was closed, and touches nothing.
@@ -129,16 +122,7 @@ impl ConsoleLink {
     /// the term is over. The link is cut all the same, and the next `cut` or `serve` hands in the command. A link that
     /// is not live does not change.
     pub fn cut<D: Desk>(&mut self, desk: &mut D) -> Result<(), TermOver>
-        ensures actor { D.actor desk.new ≡ D.actor desk.old }
-        ensures questions { D.questions desk.new ≡ D.questions desk.old }
-        ensures cuts { is_live self.old ≡ true
-            → Cuts self.old self.new (D.calls desk.old) (D.calls desk.new) }
-        ensures done { is_live self.old ≡ true
-            → IfOk result (λ _. IsOver self.new × (ended_of self.new.closing ≡ Ended.Closed)) }
-        ensures over { IfErr result (λ over. (is_live self.new ≡ true) × (before : _)
-            × (event : AnEvent) × D.refuses before event over desk.new) }
-        ensures none { is_live self.old ≡ false
-            → (result ≡ Ok tt) × (self.new ≡ self.old) × (desk.new ≡ desk.old) }
+        ensures { CutsOff D.Desk self.old self.new desk.old desk.new result }
     {
         if !self.state.is_live() {
             return Ok(());

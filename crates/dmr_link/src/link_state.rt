@@ -1,13 +1,13 @@
 //! The state that a link keeps of its connection, and the steps of its work.
 
-ghost use Rattle.std.specs.Prelude.{◌≡◌, ◌+◌, ◌<◌, ◌≤◌, ℕ, Bool, List, [], ◌∷◌, Option, Some, None};
+ghost use Rattle.std.specs.Prelude.{◌≡◌, ◌+◌, ◌<◌, ◌≤◌, List, [], Option, Some, None};
 ghost use Rattle.std.specs.Prelude.{option_map, length, true, false, IfOk, IfErr};
-ghost use Rattle.dmr_core.specs.declared.event.Event.{Event as AnEvent};
 ghost use Rattle.dmr_wire.specs.Answers.{Answer as PortAnswer};
 ghost use Rattle.dmr_link.specs.declared.desk.Deposit.{Deposit as ADeposit};
+ghost use Rattle.dmr_link.specs.Desks.{HasRefused, KeepsDesk};
 ghost use Rattle.dmr_link.specs.Happenings.{Outside, Disordered, stage_after};
 ghost use Rattle.dmr_link.specs.Limits.{most_interruptions};
-ghost use Rattle.dmr_link.specs.Moves.{Moves};
+ghost use Rattle.dmr_link.specs.Moves.{Moves, moment};
 ghost use Rattle.dmr_link.specs.Notices.{notice_meant, peer_notice};
 ghost use Rattle.dmr_link.specs.Passages.{Passage};
 ghost use Rattle.dmr_link.specs.Peers.{answer_text, peer_notice_text, next_after_answer};
@@ -17,7 +17,7 @@ ghost use Rattle.dmr_link.specs.LinkSteps.{with_outcome, TakesPiece, peer_notice
 ghost use Rattle.dmr_link.specs.LinkSteps.{first_pending, nothing_pending, is_live, pending_weight};
 ghost use Rattle.dmr_link.specs.LinkSteps.{Replies, IsHeld, IsSettled, row_then, row_after};
 ghost use Rattle.dmr_link.specs.LinkSteps.{with_next, stage_then_read, HasTurned, Listens};
-ghost use Rattle.dmr_link.specs.LinkSteps.{HasReason};
+ghost use Rattle.dmr_link.specs.LinkSteps.{HandsIn, HasReason, MayRead, Steps, moment_of};
 ghost use Rattle.dmr_link.specs.LinkSteps.{cut_state, with_new_connection};
 
 use crate::answers::Answer;
@@ -156,16 +156,11 @@ impl LinkState {
         gate: &mut G,
     ) -> Result<(), Ended>
         requires { first_pending self.old.pending ≡ Some notice.now }
-        ensures actor { D.actor desk.new ≡ D.actor desk.old }
-        ensures questions { D.questions desk.new ≡ D.questions desk.old }
-        ensures moves { Moves self.old self.new
-            (sides (W.reported port.old) (D.calls desk.old) (G.passed gate.old))
-            (sides (W.reported port.new) (D.calls desk.new) (G.passed gate.new)) 0 0 0 Outside
-            (stage_after result) }
+        ensures step { Steps W.Wire D.Desk G.Gate self.old port.old desk.old gate.old self.new port.new
+            desk.new gate.new result }
         ensures stops { IsHeld result self.new
             (pending_weight self.new.pending < pending_weight self.old.pending) }
         ensures unread { self.new.unread ≡ self.old.unread }
-        ensures why { IfErr result (HasReason D.refuses desk.new G.shuts gate.new) }
     {
         if !gate.enter() {
             return Err(Ended::GateShut);
@@ -195,15 +190,8 @@ impl LinkState {
         desk: &mut D,
         gate: &mut G,
     ) -> Result<(), Ended>
-        ensures actor { D.actor desk.new ≡ D.actor desk.old }
-        ensures questions { D.questions desk.new ≡ D.questions desk.old }
-        ensures moves { Moves self.old self.new
-            (sides (W.reported port.old) (D.calls desk.old) (G.passed gate.old))
-            (sides (W.reported port.new) (D.calls desk.new) (G.passed gate.new)) 0 0 0 Outside
-            (stage_after result) }
-        ensures stops { IsSettled result self.new }
-        ensures unread { self.new.unread ≡ self.old.unread }
-        ensures why { IfErr result (HasReason D.refuses desk.new G.shuts gate.new) }
+        ensures { HandsIn W.Wire D.Desk G.Gate self.old port.old desk.old gate.old self.new port.new
+            desk.new gate.new result }
     {
         while let Some(notice) = self.pending.first() {
             self.deposit_first(&notice, answer, port, desk, gate)?;
@@ -230,15 +218,8 @@ impl LinkState {
         desk: &mut D,
         gate: &mut G,
     ) -> Result<(), Ended>
-        ensures actor { D.actor desk.new ≡ D.actor desk.old }
-        ensures questions { D.questions desk.new ≡ D.questions desk.old }
-        ensures moves { Moves self.old self.new
-            (sides (W.reported port.old) (D.calls desk.old) (G.passed gate.old))
-            (sides (W.reported port.new) (D.calls desk.new) (G.passed gate.new)) 0 0 0 Outside
-            (stage_after result) }
-        ensures stops { IsSettled result self.new }
-        ensures unread { self.new.unread ≡ self.old.unread }
-        ensures why { IfErr result (HasReason D.refuses desk.new G.shuts gate.new) }
+        ensures { HandsIn W.Wire D.Desk G.Gate self.old port.old desk.old gate.old self.new port.new
+            desk.new gate.new result }
     {
         if self.is_quiet() {
             return Ok(());
@@ -252,8 +233,8 @@ impl LinkState {
         requires some { 0 < length self.old.unread }
         requires quiet { IsQuiet self.old }
         ensures moves { (calls : List ADeposit) (passed : Option (List Passage))
-            → Moves self.old self.new (sides (W.reported port.old) calls passed)
-            (sides (W.reported port.new) calls passed) 0 0 0 Outside Outside }
+            → Moves (moment self.old (sides (W.reported port.old) calls passed) 0 Outside)
+            (moment self.new (sides (W.reported port.new) calls passed) 0 Outside) 0 }
         ensures fewer { length self.new.unread < length self.old.unread }
     {
         if let Some(notice) = self.receive() {
@@ -269,15 +250,10 @@ impl LinkState {
         desk: &mut D,
         gate: &mut G,
     ) -> Result<(), Ended>
-        ensures actor { D.actor desk.new ≡ D.actor desk.old }
-        ensures questions { D.questions desk.new ≡ D.questions desk.old }
-        ensures moves { Moves self.old self.new
-            (sides (W.reported port.old) (D.calls desk.old) (G.passed gate.old))
-            (sides (W.reported port.new) (D.calls desk.new) (G.passed gate.new)) 0 0 0 Outside
-            (stage_after result) }
+        ensures step { Steps W.Wire D.Desk G.Gate self.old port.old desk.old gate.old self.new port.new
+            desk.new gate.new result }
         ensures stops { IsSettled result self.new }
         ensures all { IfOk result (λ _. self.new.unread ≡ []) }
-        ensures why { IfErr result (HasReason D.refuses desk.new G.shuts gate.new) }
     {
         self.deposit_pending(answer, port, desk, gate)?;
         while !self.unread.is_empty() {
@@ -290,13 +266,11 @@ impl LinkState {
     /// Reads once. Returns how many reads were interrupted last, in a row; `None` if the read would block.
     /// `row` is that number before the read. The number starts again at 0 if the read closes the connection.
     fn read_once<W: Wire>(&mut self, row: usize, port: &mut W) -> Option<usize>
-        requires quiet { IsQuiet self.old }
-        requires none { self.old.unread ≡ [] }
-        requires few { row ≤ most_interruptions }
+        requires { MayRead self.old row }
         ensures moves { (calls : List ADeposit) (passed : Option (List Passage))
-            → Moves self.old self.new (sides (W.reported port.old) calls passed)
-            (sides (W.reported port.new) calls passed) row (row_then result) 1 Outside
-            (stage_then_read result) }
+            → Moves (moment self.old (sides (W.reported port.old) calls passed) row Outside)
+            (moment self.new (sides (W.reported port.new) calls passed) (row_then result)
+            (stage_then_read result)) 1 }
         ensures few { row_then result ≤ most_interruptions }
         ensures same { (result ≡ Some 0 → ⊥) → self.new ≡ self.old }
     {
@@ -331,17 +305,13 @@ impl LinkState {
         desk: &mut D,
         gate: &mut G,
     ) -> Result<usize, Ended>
-        requires quiet { IsQuiet self.old }
-        requires none { self.old.unread ≡ [] }
-        requires few { row ≤ most_interruptions }
-        ensures actor { D.actor desk.new ≡ D.actor desk.old }
-        ensures questions { D.questions desk.new ≡ D.questions desk.old }
-        ensures moves { Moves self.old self.new
-            (sides (W.reported port.old) (D.calls desk.old) (G.passed gate.old))
-            (sides (W.reported port.new) (D.calls desk.new) (G.passed gate.new)) row
-            (row_after result) 1 Outside (stage_after result) }
+        requires { MayRead self.old row }
+        ensures keeps { KeepsDesk D.Desk desk.old desk.new }
+        ensures moves { Moves (moment_of W.Wire D.Desk G.Gate self.old port.old desk.old gate.old row Outside)
+            (moment_of W.Wire D.Desk G.Gate self.new port.new desk.new gate.new (row_after result)
+            (stage_after result)) 1 }
         ensures stops { HasTurned result self.new }
-        ensures why { IfErr result (HasReason D.refuses desk.new G.shuts gate.new) }
+        ensures why { IfErr result (HasReason D.Desk desk.new G.Gate gate.new) }
     {
         let Some(row) = self.read_once(row, port) else {
             return Err(Ended::Idle);
@@ -361,12 +331,11 @@ impl LinkState {
         desk: &mut D,
         gate: &mut G,
     ) -> Ended
-        ensures actor { D.actor desk.new ≡ D.actor desk.old }
-        ensures questions { D.questions desk.new ≡ D.questions desk.old }
+        ensures keeps { KeepsDesk D.Desk desk.old desk.new }
         ensures works { Listens self.old self.new
             (sides (W.reported port.old) (D.calls desk.old) (G.passed gate.old))
             (sides (W.reported port.new) (D.calls desk.new) (G.passed gate.new)) result }
-        ensures why { HasReason D.refuses desk.new G.shuts gate.new result }
+        ensures why { HasReason D.Desk desk.new G.Gate gate.new result }
     {
         if let Err(stop) = self.process_unread(answer, port, desk, gate) {
             return stop;
@@ -410,15 +379,13 @@ impl LinkState {
         desk: &mut D,
     ) -> Result<(), TermOver>
         requires { self.old.is_cut ≡ true }
-        ensures actor { D.actor desk.new ≡ D.actor desk.old }
-        ensures questions { D.questions desk.new ≡ D.questions desk.old }
+        ensures keeps { KeepsDesk D.Desk desk.old desk.new }
         ensures moves { (reported : Option (List PortAnswer)) (passed : Option (List Passage))
-            → Moves self.old self.new (sides reported (D.calls desk.old) passed)
-            (sides reported (D.calls desk.new) passed) 0 0 0 Disordered Disordered }
+            → Moves (moment self.old (sides reported (D.calls desk.old) passed) 0 Disordered)
+            (moment self.new (sides reported (D.calls desk.new) passed) 0 Disordered) 0 }
         ensures ok { IfOk result (λ _. (self.new.pending.kept ≡ None)
             × (self.new.pending.lost ≡ None)) }
-        ensures over { IfErr result (λ over. (before : _) × (event : AnEvent)
-            × D.refuses before event over desk.new) }
+        ensures over { IfErr result (λ over. HasRefused D.Desk desk.new) }
         ensures live { IfErr result (λ _. is_live self.new ≡ true) }
         ensures connection { self.new.connection ≡ self.old.connection }
         ensures closing { self.new.closing ≡ self.old.closing }

@@ -2,10 +2,10 @@
 //! Nothing else in this crate makes a text grow.
 
 ghost use Rattle.std.specs.Prelude.{◌≡◌, ◌+◌, ◌<◌, ◌≤◌, ◌^◌, ◌-◌, ◌/◌, ◌&&◌, Bool, true, min};
-ghost use Rattle.std.specs.Prelude.{nat_le, vec_len, vec_capacity, option_map, OnOk, OnErr};
-ghost use Rattle.dmr_link.specs.Meaning.{list_of_notice};
-ghost use Rattle.dmr_link.specs.Notices.{notice_meant, site_notice};
-ghost use Rattle.dmr_link.specs.Room.{MakesRoom, most_in, most_of, most_to_hello, most_to_poll};
+ghost use Rattle.std.specs.Prelude.{nat_le, vec_len, vec_capacity, OnOk, OnErr};
+ghost use Rattle.dmr_link.specs.Notices.{notices_meant};
+ghost use Rattle.dmr_link.specs.Notices.{site_notice};
+ghost use Rattle.dmr_link.specs.Room.{MakesRoom, most_in, most_of, most_to_poll};
 ghost use Rattle.dmr_link.specs.Room.{numbered_after_all};
 ghost use Rattle.dmr_link.specs.Steps.{notices_of_octets};
 ghost use Rattle.dmr_link.specs.Zeros.{is_up_between, zeros_in};
@@ -43,7 +43,7 @@ fn most_for_site_notice(notice: &SiteNotice, numbered: bool) -> usize
 
 /// Returns the most octets that answer a notice; 0 without one. `numbered` is whether TX are numbered before it.
 fn most_for_notice(notice: &Option<Notice>, numbered: bool) -> usize
-    ensures { result ≡ most_in numbered (list_of_notice (option_map notice_meant notice.now)) }
+    ensures { result ≡ most_in numbered (notices_meant notice.now) }
 {
     match notice {
         Some(Notice::Site(notice)) => most_for_site_notice(notice, numbered),
@@ -57,7 +57,7 @@ fn most_for_notice(notice: &Option<Notice>, numbered: bool) -> usize
 #[tactic(auto, using(crate::proofs::NumbersFollowVersions::numbers_by_version))]
 fn is_numbered_after(notice: &Option<Notice>, numbered: bool) -> bool
     ensures { result
-        ≡ numbered_after_all numbered (list_of_notice (option_map notice_meant notice.now)) }
+        ≡ numbered_after_all numbered (notices_meant notice.now) }
 {
     match notice {
         Some(Notice::Site(SiteNotice::Accepted(_, version))) => version.has_numbers(),

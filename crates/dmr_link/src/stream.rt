@@ -1,8 +1,8 @@
 //! A link's peer, and the effect of octets from the peer.
 
-ghost use Rattle.std.specs.Prelude.{◌≡◌, ◌<◌, ◌≤◌, length, option_map, take};
-ghost use Rattle.dmr_link.specs.Meaning.{list_of_notice};
-ghost use Rattle.dmr_link.specs.Notices.{notice_meant};
+ghost use Rattle.std.specs.Prelude.{◌≡◌, ◌<◌, length, take};
+ghost use Rattle.dmr_link.specs.Meaning.{IsPiece};
+ghost use Rattle.dmr_link.specs.Notices.{notices_meant};
 ghost use Rattle.dmr_link.specs.Peers.{opened_for, is_going, up_of, all_produce, closes_by};
 ghost use Rattle.dmr_link.specs.Peers.{left_after, numbered, numbering_of};
 
@@ -89,10 +89,9 @@ impl Stream {
     /// closes a connection.
     pub fn receive(&mut self, octets: &[u8]) -> (usize, Outcome)
         requires { 0 < length octets.now }
-        ensures some { 0 < result.0 }
-        ensures count { result.0 ≤ length octets.now }
+        ensures piece { IsPiece result.0 octets.now }
         ensures notice { all_produce self.old (take result.0 octets.now)
-            ≡ list_of_notice (option_map notice_meant result.1.notice) }
+            ≡ notices_meant result.1.notice }
         ensures closing { result.1.closing ≡ closes_by self.old (take result.0 octets.now) }
         ensures stream { self.new ≡ left_after self.old (take result.0 octets.now) }
     {

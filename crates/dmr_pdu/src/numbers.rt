@@ -1,7 +1,9 @@
-//! The numbers in PDUs, each with its range. Contracts see each of them as a natural number.
+//! The numbers in PDUs, each with its range, and the names of kinds and reasons. Contracts see each of them as a natural
+//! number.
 
 ghost use Rattle.std.specs.Prelude.{◌≡◌, ◌<◌, ◌≤◌, ◌^◌, ℕ};
 ghost use Rattle.std.specs.Option.{SomeIff};
+ghost use Rattle.dmr_pdu.specs.Reasons.{refuses};
 
 use crate::bounded_list::Blank;
 use std::fmt;
@@ -43,6 +45,14 @@ impl<const WIDTH: u32> Number<WIDTH> {
         ensures range { result < 2 ^ WIDTH }
     {
         u32::from(self.value)
+    }
+}
+
+/// Writes the decimal number.
+impl<const WIDTH: u32> fmt::Display for Number<WIDTH> {
+    fn fmt<W: fmt::Write>(&self, f: &mut fmt::Formatter<W>) -> fmt::Result {
+        let number = self.get();
+        write!(f, "{number}")
     }
 }
 
@@ -196,6 +206,14 @@ impl Kind {
     /// A radio cancels its call request (15).
     pub const CANCEL: Kind = Kind { code: 15 };
 
+    /// The kinds that the site knows, and their names.
+    pub const NAMES: [(Kind, &'static str); 4] = [
+        (Kind::INDIVIDUAL_VOICE, "individual_voice"),
+        (Kind::TALKGROUP_VOICE, "talkgroup_voice"),
+        (Kind::REGISTRATION, "registration"),
+        (Kind::CANCEL, "cancel"),
+    ];
+
     /// Returns the kind with this number, which must be below 16.
     pub fn new(number: u32) -> Self
         requires { number < 2 ^ 4 }
@@ -210,6 +228,25 @@ impl Kind {
         ensures range { result < 2 ^ 4 }
     {
         u32::from(self.code)
+    }
+
+    /// Returns the name of a kind that the site knows, or `None` for another.
+    pub fn name(&self) -> Option<&'static str> {
+        Kind::NAMES
+            .iter()
+            .find(|row| row.0 == *self)
+            .map(|row| row.1)
+    }
+}
+
+/// Writes the name of a kind that the site knows, or else the decimal number.
+impl fmt::Display for Kind {
+    fn fmt<W: fmt::Write>(&self, f: &mut fmt::Formatter<W>) -> fmt::Result {
+        let number = self.get();
+        match self.name() {
+            Some(name) => write!(f, "{name}"),
+            None => write!(f, "{number}"),
+        }
     }
 }
 
@@ -281,6 +318,26 @@ impl Reason {
     /// Wait (0xE0): more signalling follows.
     pub const WAIT: Reason = Reason { octet: 0xE0 };
 
+    /// The reasons that have a name, and their names.
+    pub const NAMES: [(Reason, &'static str); 16] = [
+        (Reason::NOT_SUPPORTED, "Not_Supported"),
+        (Reason::PERM_USER_REFUSED, "Perm_User_Refused"),
+        (Reason::TRANSIENT_SYS_REFUSED, "Transient_Sys_Refused"),
+        (Reason::NOREG_MS_AWAY, "NoReg_MS_Away"),
+        (Reason::SYSBUSY_REFUSED, "SysBusy_Refused"),
+        (Reason::CALL_CANCEL_REFUSED, "Call_Cancel_Refused"),
+        (Reason::REG_REFUSED, "Reg_Refused"),
+        (Reason::REG_DENIED, "Reg_Denied"),
+        (Reason::MS_NOT_REGISTERED, "MS_Not_Registered"),
+        (Reason::CALLED_PARTY_BUSY, "Called_Party_Busy"),
+        (Reason::GROUP_NOT_ALLOWED, "Group_Not_Allowed"),
+        (Reason::MS_ACCEPTED, "MS_Accepted"),
+        (Reason::MESSAGE_ACCEPTED, "Message_Accepted"),
+        (Reason::REG_ACCEPTED, "Reg_Accepted"),
+        (Reason::QUEUED_FOR_RESOURCE, "Queued_For_Resource"),
+        (Reason::WAIT, "Wait"),
+    ];
+
     /// Returns the reason with this octet, which must be below 256.
     pub fn new(number: u32) -> Self
         requires { number < 2 ^ 8 }
@@ -297,5 +354,31 @@ impl Reason {
         ensures range { result < 2 ^ 8 }
     {
         u32::from(self.octet)
+    }
+
+    /// Reports whether an acknowledgement with this reason refuses a request: octets 0x20 to 0x2F.
+    pub fn is_refusal(&self) -> bool
+        ensures { result ≡ refuses self.now }
+    {
+        self.octet / 16 == 2
+    }
+
+    /// Returns the name of a reason that has one, or `None` for another.
+    pub fn name(&self) -> Option<&'static str> {
+        Reason::NAMES
+            .iter()
+            .find(|row| row.0 == *self)
+            .map(|row| row.1)
+    }
+}
+
+/// Writes the name of a reason that has one, or else the decimal number.
+impl fmt::Display for Reason {
+    fn fmt<W: fmt::Write>(&self, f: &mut fmt::Formatter<W>) -> fmt::Result {
+        let number = self.get();
+        match self.name() {
+            Some(name) => write!(f, "{name}"),
+            None => write!(f, "{number}"),
+        }
     }
 }

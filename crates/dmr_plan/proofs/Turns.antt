@@ -9,7 +9,8 @@ use Rattle.dmr_plan.specs.Steps.{◌>>=◌}
 use Rattle.dmr_plan.specs.Arrays.{all_items, in_turn, count_of}
 
 -- a test of each item from an index on
-pub all_items-drop : (p : Data → Bool) (vs : List Value) (i : ℕ) (d : Value) → i < length vs → all_items p (items_view (drop i vs)) ≡ (p (view (get_or vs i d)) && all_items p (items_view (drop (i + 1) vs)))
+pub all_items-drop : (p : Data → Bool) (vs : List Value) (i : ℕ) (d : Value) → i < length vs
+    → all_items p (items_view (drop i vs)) ≡ (p (view (get_or vs i d)) && all_items p (items_view (drop (i + 1) vs)))
 all_items-drop p vs i d h = rw (items_view-drop vs i d h)
 
 -- items read in order, from an index on
@@ -23,7 +24,8 @@ count_of-view [] = refl
 count_of-view (v ∷ vs) = ap suc (count_of-view vs)
 
 -- one more item in a loop over a slice
-pub in_turn-step : {A : Type 0} (f : List A → Data → Result A PlanFault) (xs seen grown : List A) (x : A) (vs : List Value) (i : ℕ) (v : Value) (whole : Result (List A) PlanFault)
+pub in_turn-step : {A : Type 0} (f : List A → Data → Result A PlanFault) (xs seen grown : List A) (x : A) (vs : List Value) (i : ℕ)
+    (v : Value) (whole : Result (List A) PlanFault)
     → seen ≡ xs → grown ≡ xs ++ x ∷ [] → i < length vs → v ≡ get_or vs i v → Ok x ≡ f seen (view v)
     → in_turn f xs (items_view (drop i vs)) ≡ whole → in_turn f grown (items_view (drop (i + 1) vs)) ≡ whole
 in_turn-step f xs seen grown x vs i v whole same more h is gives before =

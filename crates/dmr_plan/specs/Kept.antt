@@ -1,5 +1,5 @@
 -- The parts of the invariant of a plan: its numbers and lists.
-use Rattle.std.specs.Prelude.{◌≡◌, ◌≤◌, ℕ, List, length, map, false}
+use Rattle.std.specs.Prelude.{◌≡◌, ◌≤◌, ◌==◌, ℕ, List, length, map, false}
 use Rattle.std.specs.List.{All}
 use Rattle.dmr_plan.specs.declared.key.Key.TheVariants.{Address, Radios, Groups, Carrier, Number}
 use Rattle.dmr_plan.specs.declared.key.Key.TheVariants.{Lpcn, Port}
@@ -7,7 +7,7 @@ use Rattle.dmr_plan.specs.declared.lists.RadioRange.{RadioRange}
 use Rattle.dmr_plan.specs.declared.carriers.CarrierRow.{CarrierRow}
 use Rattle.dmr_plan.specs.Keys.{IsNumberOf, limits_of}
 use Rattle.dmr_plan.specs.Lists.{has_repeat}
-use Rattle.dmr_plan.specs.Carriers.{has_port_in}
+use Rattle.dmr_plan.specs.Carriers.{has_number_in, has_lpcn_in, has_port_in}
 
 -- an IPv4 address has four numbers, each an octet
 pub record IsAddress (octets : List ℕ) : Type 0 where
@@ -37,6 +37,15 @@ pub record IsCarrierRow (row : CarrierRow) : Type 0 where
   pub number : IsNumberOf Number row.number
   pub lpcn : IsNumberOf Lpcn row.lpcn
   pub port : IsNumberOf Port row.port
+
+-- a carrier after these: it differs from each in number, channel and port, and its port is not the console's
+pub record IsNewRow (console_port : ℕ) (earlier : List CarrierRow) (row : CarrierRow)
+    : Type 0 where
+  pub limits : IsCarrierRow row
+  pub number : has_number_in earlier row.number ≡ false
+  pub lpcn : has_lpcn_in earlier row.lpcn ≡ false
+  pub port : has_port_in earlier row.port ≡ false
+  pub console : (row.port == console_port) ≡ false
 
 -- no two carriers have the same number, channel or port, and none has the console's port
 pub record AreApart (console_port : ℕ) (rows : List CarrierRow) : Type 0 where

@@ -21,33 +21,11 @@ plan_of ms = do
   serving ← serving_of ms
   lists ← lists_of ms
   Ok (record {
-    system = system.system;
-    regi = system.regi;
-    tsi = system.tsi;
-    leave_bit = system.leave_bit;
-    aloha_sync = aloha.sync;
-    aloha_version = aloha.version;
-    aloha_offset = aloha.offset;
-    aloha_active = aloha.active;
-    nrand_wait = aloha.nrand_wait;
-    hang = calls.hang;
-    maximum = calls.maximum;
-    ahoy_wait = calls.ahoy_wait;
-    ahoy_tries = calls.ahoy_tries;
-    grant_copies = calls.grant_copies;
-    clear_copies = calls.clear_copies;
-    backoff_low = calls.backoff_low;
-    backoff_high = calls.backoff_high;
-    tick_ms = serving.tick_ms;
-    silence = serving.silence;
-    term_entries = serving.term_entries;
-    link_version = serving.link_version;
-    address = serving.address;
-    console_port = lists.console_port;
-    radios = lists.radios;
-    groups = lists.groups;
-    carriers = lists.carriers;
-    control = lists.control;
+    system = system;
+    aloha = aloha;
+    calls = calls;
+    serving = serving;
+    lists = lists;
   })
 
 -- the settings of a document, or the fault that the text is not TOML
@@ -61,8 +39,8 @@ plan_of_text text = plan_of_document (parse_document text)
 
 -- whether one of the ranges has this radio
 abbrev pub lists_radio : Settings → ℕ → Bool
-lists_radio s radio = list_any (λ (range : RadioRange). is_within range radio) s.radios
+lists_radio s radio = list_any (λ (range : RadioRange). is_within range radio) s.lists.radios
 
 -- whether a talkgroup is one of the groups
 abbrev pub lists_group : Settings → ℕ → Bool
-lists_group s group = list_any (λ g. g == group) s.groups
+lists_group s group = list_any (λ g. g == group) s.lists.groups

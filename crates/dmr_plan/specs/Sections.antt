@@ -98,7 +98,7 @@ lists_of ms = do
       })
       else Err (OutOfRange key.Control)
 
--- ---- what each section satisfies. Only contracts of internal functions name these
+-- ---- what each section satisfies
 
 -- each key of the system is within its range, and the services have two addresses
 pub record IsSystemSection (s : SystemSection) : Type 0 where

@@ -1,6 +1,6 @@
 //! The key `carrier`.
 
-ghost use Rattle.std.specs.Prelude.{◌≡◌, ◌≤◌, ◌==◌, ℕ, length, [], false, IfOk, IfErr, IfSome};
+ghost use Rattle.std.specs.Prelude.{◌≡◌, ◌≤◌, ℕ, length, [], IfOk, IfErr, IfSome};
 ghost use Rattle.std.specs.List.{All, Contains};
 ghost use Rattle.toml.specs.View.{view, items_view, table_view};
 ghost use Rattle.dmr_plan.specs.Steps.{IsOfKey};
@@ -9,7 +9,7 @@ ghost use Rattle.dmr_plan.specs.Arrays.{in_turn};
 ghost use Rattle.dmr_plan.specs.Carriers.{row_with, has_number_in, has_lpcn_in, has_port_in};
 ghost use Rattle.dmr_plan.specs.Carriers.{carrier_of_table, carrier_of_item, carriers_of};
 ghost use Rattle.dmr_plan.specs.Carriers.{carriers_of_items};
-ghost use Rattle.dmr_plan.specs.Kept.{IsCarrierRow, AreApart, AreCarriers};
+ghost use Rattle.dmr_plan.specs.Kept.{IsCarrierRow, IsNewRow, AreApart, AreCarriers};
 
 use crate::arrays::{array_at, has_count};
 use crate::fault::PlanFault;
@@ -77,11 +77,7 @@ pub fn row_numbered(rows: &[CarrierRow], number: CarrierNo) -> Option<CarrierRow
 #[tactic(auto, unfolding(crate::specs::Carriers::carrier_of_table))]
 fn row_in(console_port: u16, earlier: &[CarrierRow], table: &Table) -> Result<CarrierRow, PlanFault>
     ensures gives { result ≡ carrier_of_table console_port earlier.now (table_view table.now) }
-    ensures limits { IfOk result IsCarrierRow }
-    ensures number { IfOk result (λ row. has_number_in earlier.now row.number ≡ false) }
-    ensures lpcn { IfOk result (λ row. has_lpcn_in earlier.now row.lpcn ≡ false) }
-    ensures port { IfOk result (λ row. has_port_in earlier.now row.port ≡ false) }
-    ensures console { IfOk result (λ row. (row.port == console_port) ≡ false) }
+    ensures apart { IfOk result (IsNewRow console_port earlier.now) }
     ensures of_key { IfErr result IsOfKey }
 {
     let number = CarrierNo::new(number_at(table, Key::Number)?);
@@ -109,11 +105,7 @@ fn row_from(
     value: &Value,
 ) -> Result<CarrierRow, PlanFault>
     ensures gives { result ≡ carrier_of_item console_port earlier.now (view value.now) }
-    ensures limits { IfOk result IsCarrierRow }
-    ensures number { IfOk result (λ row. has_number_in earlier.now row.number ≡ false) }
-    ensures lpcn { IfOk result (λ row. has_lpcn_in earlier.now row.lpcn ≡ false) }
-    ensures port { IfOk result (λ row. has_port_in earlier.now row.port ≡ false) }
-    ensures console { IfOk result (λ row. (row.port == console_port) ≡ false) }
+    ensures apart { IfOk result (IsNewRow console_port earlier.now) }
     ensures of_key { IfErr result IsOfKey }
 {
     match value.as_table() {

@@ -269,7 +269,7 @@ impl Key {
     }
 
     /// The key's name in the site file.
-    pub fn name(self) -> &'static str
+    pub(crate) fn name(self) -> &'static str
         ensures { result.now ≡ name_of self }
     {
         self.row().name

@@ -22,3 +22,5 @@ pub use key::{Key, MOST_CARRIERS, MOST_GROUPS, MOST_RANGES};
 pub use limits::limits_are_stated;
 pub use lists::RadioRange;
 pub use plan::Plan;
+pub use sections::{AlohaSection, CallSection, ListSection, ServingSection, SystemSection};
+pub use settings::Settings;

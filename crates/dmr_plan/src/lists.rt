@@ -30,7 +30,7 @@ pub struct RadioRange {
 
 impl RadioRange {
     /// Returns whether a radio is in the range.
-    pub fn contains(&self, radio: Address) -> bool
+    pub(crate) fn contains(&self, radio: Address) -> bool
         ensures gives { result ≡ is_within self.now radio }
         ensures within { IsTrue result ↔ ((self.now.first ≤ radio) × (radio ≤ self.now.last)) }
     {

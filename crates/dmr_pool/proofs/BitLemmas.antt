@@ -9,13 +9,16 @@ use Rattle.dmr_pool.specs.Marks.{has_bit, IsLowestBit, IsSet}
 -- the bit of a place, as a power of two
 pub bit_set : (bits k at : ℕ) (is_in : Bool) → k ≡ at → k < 32 → is_in ≡ true → IsSet bits (bit_or bits (1 * 2 ^ k % 2 ^ 32)) at is_in
 bit_set bits k at is_in same within set = record {
-  there = subst (λ n. has_bit (bit_or bits (1 * 2 ^ k % 2 ^ 32)) n ≡ is_in) same (ap (λ n. n == 1) (bit_at_set_same w32 bits k within) ∙ sym set);
+  there = subst (λ n. has_bit (bit_or bits (1 * 2 ^ k % 2 ^ 32)) n ≡ is_in) same (ap (λ n. n == 1) (bit_at_set_same w32 bits k within)
+      ∙ sym set);
   others = λ n below apart. ap (λ b. b == 1) (bit_at_set_other w32 bits k within n (λ e. apart (e ∙ same)));
 }
 
-pub bit_cleared : (bits k at : ℕ) (is_in : Bool) → k ≡ at → k < 32 → is_in ≡ false → IsSet bits (bit_and bits (bit_not w32 (1 * 2 ^ k % 2 ^ 32))) at is_in
+pub bit_cleared : (bits k at : ℕ) (is_in : Bool) → k ≡ at → k < 32 → is_in ≡ false
+    → IsSet bits (bit_and bits (bit_not w32 (1 * 2 ^ k % 2 ^ 32))) at is_in
 bit_cleared bits k at is_in same within clear = record {
-  there = subst (λ n. has_bit (bit_and bits (bit_not w32 (1 * 2 ^ k % 2 ^ 32))) n ≡ is_in) same (ap (λ n. n == 1) (bit_at_clear_same w32 bits k within) ∙ sym clear);
+  there = subst (λ n. has_bit (bit_and bits (bit_not w32 (1 * 2 ^ k % 2 ^ 32))) n ≡ is_in) same
+      (ap (λ n. n == 1) (bit_at_clear_same w32 bits k within) ∙ sym clear);
   others = λ n below apart. ap (λ b. b == 1) (bit_at_clear_other w32 bits k within n below (λ e. apart (e ∙ same)));
 }
 

@@ -28,7 +28,9 @@ none_more passes from to here after k reached below = either (cases_lt from k)
     either (inr there) = let same : from ≡ k = omega arith in subst (λ n. passes (slot_at n) ≡ false) same here
 
 -- the same about the slot that is found
-one_more : (passes : Slot → Bool) (from to : ℕ) (found : Option Slot) → passes (slot_at from) ≡ false → MatchOption found (NonePass passes (from + 1) to) (IsFirst passes (from + 1) to) → MatchOption found (NonePass passes from to) (IsFirst passes from to)
+one_more : (passes : Slot → Bool) (from to : ℕ) (found : Option Slot) → passes (slot_at from) ≡ false
+    → MatchOption found (NonePass passes (from + 1) to) (IsFirst passes (from + 1) to)
+    → MatchOption found (NonePass passes from to) (IsFirst passes from to)
 one_more passes from to None here after = none_more passes from to here after
 one_more passes from to (Some slot) here after = record {
   at = after.at;
@@ -39,12 +41,23 @@ one_more passes from to (Some slot) here after = record {
 }
 
 -- the slot found among those of `n` places is the first that passes, if any does
-found_first : (passes : Slot → Bool) (from n to : ℕ) → from + n ≡ to → MatchOption (find passes (map slot_at (range_with_len from n))) (NonePass passes from to) (IsFirst passes from to)
+found_first : (passes : Slot → Bool) (from n to : ℕ) → from + n ≡ to
+    → MatchOption (find passes (map slot_at (range_with_len from n))) (NonePass passes from to) (IsFirst passes from to)
 found_first passes from zero to all = λ k reached below. absurd (omega arith)
 found_first passes from (suc n) to all = either (passes (slot_at from)) refl (found_first passes (from + 1) n to (omega arith))
   where
-    either : (b : Bool) → passes (slot_at from) ≡ b → MatchOption (find passes (map slot_at (range_with_len (from + 1) n))) (NonePass passes (from + 1) to) (IsFirst passes (from + 1) to) → MatchOption (cond b (Some (slot_at from)) (find passes (map slot_at (range_with_len (from + 1) n)))) (NonePass passes from to) (IsFirst passes from to)
-    either true here after = record { at = from; is = refl; within = omega arith; passing = here; before = λ k reached below. absurd (omega arith) }
+    either : (b : Bool) → passes (slot_at from) ≡ b → MatchOption (find passes (map slot_at (range_with_len (from + 1) n)))
+        (NonePass passes (from + 1) to) (IsFirst passes (from + 1) to)
+        → MatchOption (cond b (Some (slot_at from)) (find passes (map slot_at (range_with_len (from + 1) n)))) (NonePass passes from to)
+        (IsFirst passes from to)
+    either true here after = record {
+      at = from;
+      is = refl;
+      within = omega arith;
+      passing = here;
+      before =
+          λ k reached below. absurd (omega arith);
+    }
     either false here after = one_more passes from to (find passes (map slot_at (range_with_len (from + 1) n))) here after
 
 -- a slot is the one at its place
@@ -55,14 +68,17 @@ slot_at-place slot is_slot =
     λ i. record { carrier = carrier i; slot = number i }
 
 -- the first free slot by places is the lowest
-at_place : (slots : Slots) (found : Option Slot) → MatchOption found (NonePass (is_free slots) 0 32) (IsFirst (is_free slots) 0 32) → MatchOption found (HasNoFreeSlot slots) (IsLowestFree slots)
-at_place slots None none = λ slot is_slot. subst (λ s. is_free slots s ≡ false) (slot_at-place slot is_slot) (none (place slot) (omega arith) (omega (arith, is_slot.0, is_slot.1)))
+at_place : (slots : Slots) (found : Option Slot) → MatchOption found (NonePass (is_free slots) 0 32) (IsFirst (is_free slots) 0 32)
+    → MatchOption found (HasNoFreeSlot slots) (IsLowestFree slots)
+at_place slots None none = λ slot is_slot. subst (λ s. is_free slots s ≡ false) (slot_at-place slot is_slot)
+    (none (place slot) (omega arith) (omega (arith, is_slot.0, is_slot.1)))
 at_place slots (Some slot) first = record {
   within = subst IsSlot first.is (omega (arith, first.within), omega arith);
   free = first.passing;
   lowest = λ other is_slot below.
       let there : place (slot_at first.at) ≡ place slot = ap place first.is in
-      subst (λ s. is_free slots s ≡ false) (slot_at-place other is_slot) (first.before (place other) (omega arith) (omega (arith, there, below)));
+      subst (λ s. is_free slots s ≡ false) (slot_at-place other is_slot)
+      (first.before (place other) (omega arith) (omega (arith, there, below)));
 }
 
 -- the lowest free slot is free, and none before it is; without one, none is
@@ -71,7 +87,8 @@ unfolding lowest_free_by
 lowest_free-lowest slots = at_place slots _ (found_first (is_free slots) 0 32 32 refl)
 
 -- at most one slot is the lowest that is free
-pub one_lowest : (slots : Slots) (a b : Option Slot) → MatchOption a (HasNoFreeSlot slots) (IsLowestFree slots) → MatchOption b (HasNoFreeSlot slots) (IsLowestFree slots) → a ≡ b
+pub one_lowest : (slots : Slots) (a b : Option Slot) → MatchOption a (HasNoFreeSlot slots) (IsLowestFree slots)
+    → MatchOption b (HasNoFreeSlot slots) (IsLowestFree slots) → a ≡ b
 one_lowest slots None None h k = refl
 one_lowest slots (Some a) None h k = let none : is_free slots a ≡ false = k a h.within in absurd (cc (h.free, none))
 one_lowest slots None (Some b) h k = let none : is_free slots b ≡ false = h b k.within in absurd (cc (k.free, none))

@@ -1,231 +1,185 @@
 -- The counts remain those of the waiting grants.
-use Rattle.std.proofs.Common.{arith, ◌≡◌, ◌≢◌, ℕ, zero, suc, ◌+◌, ◌-◌, ◌*◌, ◌<◌, ◌≤◌, ◌⊎◌, inl, inr, Bool, true, false, refl, sym, ap, ◌∙◌, subst, List, [], ◌∷◌, ◌++◌, map, drop, replicate, length, slice_set, eqb-true, zero-add, length-append, length-drop, length-set}
-use Rattle.std.specs.Prelude.{cond, ◌&&◌, ◌||◌, ◌==◌, ◌/◌, ◌%◌, if◌then◌else◌, nat_lt, Option, Some, None, option_map, slice_get, slice_index_or}
+use Rattle.std.proofs.Common.{arith, ◌≡◌, ◌≢◌, ℕ, zero, suc, ◌+◌, ◌-◌, ◌*◌, ◌<◌, ◌≤◌, ◌⊎◌, inl, inr, Bool, true, false, refl, sym, ap, ◌∙◌}
+use Rattle.std.proofs.Common.{subst, List, [], ◌∷◌, ◌++◌, map, drop, replicate, length, slice_set, eqb-true, zero-add, length-append}
+use Rattle.std.proofs.Common.{length-drop, length-set}
+use Rattle.std.specs.Prelude.{cond, ◌&&◌, ◌||◌, ◌==◌, ◌/◌, ◌%◌, if◌then◌else◌, nat_lt, Option, Some, None, option_map, slice_get}
+use Rattle.std.specs.Prelude.{slice_index_or}
 use Rattle.std.specs.List.{All, list_any, find, count_by}
 use Rattle.std.specs.Option.{option_map_or}
-use Rattle.std.proofs.lemmas.Bool.{cases_lt, or_parts, eqb-false}
+use Rattle.std.proofs.lemmas.Bool.{and_parts, cases_lt, or_from, or_parts, eqb-false}
 use Rattle.std.proofs.lemmas.Bool.Decides.{nat_tests}
-use Rattle.std.proofs.lemmas.List.{get_or-set_same, get_or-set_other, set-get_or}
+use Rattle.std.proofs.lemmas.List.{get_or_past, get_or-set_same, get_or-set_other}
 use Rattle.std.proofs.lemmas.List.Elements.{All-get_or, All-replicate, All-set}
 use Rattle.std.proofs.lemmas.List.Sums.{sum_by_push, sum_by-cons, count_by-le-length}
 use Rattle.dmr_pdu.specs.declared.slots.Slot.{Slot}
 use Rattle.dmr_pdu.specs.declared.pdu.Pdu.{Pdu}
 use Rattle.dmr_pdu.specs.declared.pdu.Pdu.TheVariants.{PvGrant, TvGrant}
-use Rattle.dmr_plan.specs.declared.settings.Settings.{Settings}
+use Rattle.dmr_plan.specs.declared.sections.ListSection.{ListSection}
 use Rattle.dmr_plan.specs.declared.carriers.CarrierRow.{CarrierRow}
 use Rattle.dmr_plan.specs.Carriers.{row_with}
 use Rattle.dmr_plan.specs.Lists.{has_repeat}
-use Rattle.dmr_plan.specs.IsPlan.{IsPlan}
+use Rattle.dmr_plan.specs.Sections.{IsListSection}
 use Rattle.dmr_pool.specs.Slots.{IsSlot, box, outboxes_without_carrier, place, outboxes_with_pdu, outboxes_after_send, slot_at}
 use Rattle.dmr_pool.specs.Free.{control_slot, is_control, is_granted, names}
-use Rattle.dmr_pool.specs.Grants.{AreCounted, AreOutboxes, grants_of, slot_counted, slot_granted, slot_on_channel}
+use Rattle.dmr_pool.specs.Grants.{AreCounted, AreOutboxes, IsOneMore, grants_of, is_this, slot_counted, slot_granted, slot_on_channel}
 use Rattle.dmr_pool.proofs.FreeLemmas.{slot_at-place}
 
--- if no carrier of a list has a number, one that is found among them does not have it
-none_has : (f : CarrierRow → ℕ) (p : CarrierRow → Bool) (n : ℕ) (rows : List CarrierRow) → list_any (λ m. m == n) (map f rows) ≡ false → option_map_or (λ (r : CarrierRow). f r == n) (find p rows) false ≡ false
-none_has f p n [] h = refl
-none_has f p n (row ∷ rows) h = either (p row) parts.0 (none_has f p n rows parts.1)
+-- ---- the slot that a PDU grants
+
+-- a number that no two carriers have, and a test whether a carrier has it
+module _ (f : CarrierRow → ℕ) (n : ℕ) (p : CarrierRow → Bool) (is_n : (row : CarrierRow) → p row ≡ (f row == n))
+    (q : CarrierRow → Bool) where
+  none_any : (rows : List CarrierRow) → list_any (λ m. m == n) (map f rows) ≡ false → list_any (λ row. p row && q row) rows ≡ false
+  none_any [] h = refl
+  none_any (row ∷ rows) h =
+      let parts = or_parts _ _ h in
+      or_from _ _ (ap (λ b. b && q row) (is_n row ∙ parts.0)) (none_any rows parts.1)
+
+  -- the carrier with the number passes another test exactly if a carrier passes both
+  found_any : (rows : List CarrierRow) → has_repeat (map f rows) ≡ false
+      → option_map_or q (find p rows) false ≡ list_any (λ row. p row && q row) rows
+  found_any [] h = refl
+  found_any (row ∷ rows) h =
+      let parts = or_parts _ _ h in
+      either (p row) refl parts.0 (found_any rows parts.1)
+    where
+      or_no : (b : Bool) → b ≡ (b || false)
+      or_no true = refl
+      or_no false = refl
+
+      either : (b : Bool) → p row ≡ b → list_any (λ m. m == f row) (map f rows) ≡ false
+          → option_map_or q (find p rows) false ≡ list_any (λ r. p r && q r) rows
+          → option_map_or q (cond b (Some row) (find p rows)) false ≡ ((b && q row) || list_any (λ r. p r && q r) rows)
+      either true e others more =
+          let it : f row ≡ n = eqb-true (f row) n (sym (is_n row) ∙ e) in
+          let none = none_any rows (subst (λ m. list_any (λ k. k == m) (map f rows) ≡ false) it others) in
+          or_no (q row) ∙ ap (λ b. q row || b) (sym none)
+      either false e others more = more
+
+-- three tests of each carrier, in another order
+exchanged : (p q : CarrierRow → Bool) (b : Bool) (rows : List CarrierRow)
+    → list_any (λ row. p row && (q row && b)) rows ≡ list_any (λ row. q row && (p row && b)) rows
+exchanged p q b [] = refl
+exchanged p q b (row ∷ rows) = λ i. ands (p row) (q row) i || exchanged p q b rows i
   where
-    parts : ((f row == n) ≡ false) × (list_any (λ m. m == n) (map f rows) ≡ false)
-    parts = or_parts _ _ h
+    ands : (x y : Bool) → (x && (y && b)) ≡ (y && (x && b))
+    ands true true = refl
+    ands true false = refl
+    ands false true = refl
+    ands false false = refl
 
-    either : (b : Bool) → (f row == n) ≡ false → option_map_or (λ (r : CarrierRow). f r == n) (find p rows) false ≡ false → option_map_or (λ (r : CarrierRow). f r == n) (cond b (Some row) (find p rows)) false ≡ false
-    either true here more = here
-    either false here more = more
+this_found : (found : Option CarrierRow) (number : ℕ) (slot : Slot)
+    → option_map_or (λ (r : CarrierRow). (r.number == slot.carrier) && (number == slot.slot)) found false
+    ≡ is_this (option_map (λ (r : CarrierRow). record { carrier = r.number; slot = number }) found) slot
+this_found None number slot = refl
+this_found (Some r) number slot = refl
 
-turned : (m n : ℕ) → (m == n) ≡ (n == m)
-turned m n = grind (arith, nat_tests)
-
--- the carrier with a number has a channel exactly if the carrier with that channel has the number
-pub tuned : (rows : List CarrierRow) (c channel : ℕ) → has_repeat (map (λ (r : CarrierRow). r.number) rows) ≡ false → has_repeat (map (λ (r : CarrierRow). r.lpcn) rows) ≡ false
-    → option_map_or (λ (r : CarrierRow). channel == r.lpcn) (row_with rows c) false ≡ option_map_or (λ (r : CarrierRow). r.number == c) (find (λ (r : CarrierRow). channel == r.lpcn) rows) false
-tuned [] c channel h k = refl
-tuned (row ∷ rows) c channel h k = either (row.number == c) (channel == row.lpcn) refl refl (tuned rows c channel numbers.1 lpcns.1)
-  where
-    numbers : (list_any (λ m. m == row.number) (map (λ (r : CarrierRow). r.number) rows) ≡ false) × (has_repeat (map (λ (r : CarrierRow). r.number) rows) ≡ false)
-    numbers = or_parts _ _ h
-
-    lpcns : (list_any (λ m. m == row.lpcn) (map (λ (r : CarrierRow). r.lpcn) rows) ≡ false) × (has_repeat (map (λ (r : CarrierRow). r.lpcn) rows) ≡ false)
-    lpcns = or_parts _ _ k
-
-    has_channel : Option CarrierRow → Bool
-    has_channel found = option_map_or (λ (r : CarrierRow). channel == r.lpcn) found false
-
-    has_number : Option CarrierRow → Bool
-    has_number found = option_map_or (λ (r : CarrierRow). r.number == c) found false
-
-    no_channel : (found : Option CarrierRow) → channel ≡ row.lpcn → option_map_or (λ (r : CarrierRow). r.lpcn == row.lpcn) found false ≡ false → has_channel found ≡ false
-    no_channel None e none = refl
-    no_channel (Some r) e none = turned channel r.lpcn ∙ ap (λ n. r.lpcn == n) e ∙ none
-
-    no_number : (found : Option CarrierRow) → row.number ≡ c → option_map_or (λ (r : CarrierRow). r.number == row.number) found false ≡ false → has_number found ≡ false
-    no_number None e none = refl
-    no_number (Some r) e none = ap (λ n. r.number == n) (sym e) ∙ none
-
-    either : (a b : Bool) → (row.number == c) ≡ a → (channel == row.lpcn) ≡ b → has_channel (row_with rows c) ≡ has_number (find (λ (r : CarrierRow). channel == r.lpcn) rows)
-        → has_channel (cond a (Some row) (row_with rows c)) ≡ has_number (cond b (Some row) (find (λ (r : CarrierRow). channel == r.lpcn) rows))
-    either true true e d more = d ∙ sym e
-    either true false e d more =
-        d ∙ sym (no_number (find (λ (r : CarrierRow). channel == r.lpcn) rows) (eqb-true row.number c e) (none_has (λ (r : CarrierRow). r.number) (λ (r : CarrierRow). channel == r.lpcn) row.number rows numbers.0))
-    either false true e d more =
-        no_channel (row_with rows c) (eqb-true channel row.lpcn d) (none_has (λ (r : CarrierRow). r.lpcn) (λ (r : CarrierRow). r.number == c) row.lpcn rows lpcns.0) ∙ sym e
-    either false false e d more = more
-
--- a grant that names the slot by its carrier's channel
-abbrev pub names_slot : Settings → Slot → Pdu → Bool
-names_slot plan slot pdu = option_map_or (λ (row : CarrierRow). names row.lpcn slot.slot pdu) (row_with plan.carriers slot.carrier) false
-
--- the slot is the one, if there is one
-abbrev pub is_this : Option Slot → Slot → Bool
-is_this None slot = false
-is_this (Some s) slot = (s.carrier == slot.carrier) && (s.slot == slot.slot)
-
-no_and : (a : Bool) → (a && false) ≡ false
-no_and true = refl
-no_and false = refl
-
--- a test of the carrier and one of the slot's number, one by one
-parted : (test : CarrierRow → Bool) (b : Bool) (found : Option CarrierRow) → option_map_or (λ (r : CarrierRow). test r && b) found false ≡ (option_map_or test found false && b)
-parted test b None = refl
-parted test b (Some r) = refl
-
-tuned_this : (found : Option CarrierRow) (number : ℕ) (slot : Slot) → is_this (option_map (λ (r : CarrierRow). record { carrier = r.number; slot = number }) found) slot ≡ (option_map_or (λ (r : CarrierRow). r.number == slot.carrier) found false && (number == slot.slot))
-tuned_this None number slot = refl
-tuned_this (Some r) number slot = refl
-
-named_tuned : (plan : Settings) (slot : Slot) (channel number : ℕ) → IsPlan plan → option_map_or (λ (row : CarrierRow). (channel == row.lpcn) && (number == slot.slot)) (row_with plan.carriers slot.carrier) false ≡ is_this (slot_on_channel plan channel number) slot
-named_tuned plan slot channel number is =
-    parted (λ (row : CarrierRow). channel == row.lpcn) (number == slot.slot) (row_with plan.carriers slot.carrier)
-    ∙ ap (λ b. b && (number == slot.slot)) (tuned plan.carriers slot.carrier channel is.carriers.apart.numbers is.carriers.apart.lpcns)
-    ∙ sym (tuned_this (find (λ (r : CarrierRow). channel == r.lpcn) plan.carriers) number slot)
+-- a grant that names a slot of the carrier with this row, if there is one
+abbrev pub named : Option CarrierRow → Slot → Pdu → Bool
+named found slot pdu = option_map_or (λ (row : CarrierRow). names row.lpcn slot.slot pdu) found false
 
 never : (found : Option CarrierRow) → option_map_or (λ (row : CarrierRow). false) found false ≡ false
 never None = refl
 never (Some row) = refl
 
--- a PDU names the slot that it grants, and no other
-pub named_granted : (plan : Settings) (slot : Slot) (pdu : Pdu) → IsPlan plan → names_slot plan slot pdu ≡ is_this (slot_granted plan pdu) slot
-named_granted plan slot (PvGrant channel number target source) is = named_tuned plan slot channel number is
-named_granted plan slot (TvGrant channel number late target source) is = named_tuned plan slot channel number is
-named_granted plan slot _ is = never (row_with plan.carriers slot.carrier)
+module _ (lists : ListSection) (are_lists : IsListSection lists) (slot : Slot) where
+  named_tuned : (channel number : ℕ)
+      → option_map_or (λ (row : CarrierRow). (channel == row.lpcn) && (number == slot.slot)) (row_with lists.carriers slot.carrier) false
+      ≡ is_this (slot_on_channel lists channel number) slot
+  named_tuned channel number =
+      found_any (λ row. row.number) slot.carrier (λ row. row.number == slot.carrier) (λ row. refl)
+      (λ row. (channel == row.lpcn) && (number == slot.slot)) lists.carriers are_lists.carriers.apart.numbers
+      ∙ exchanged (λ row. row.number == slot.carrier) (λ row. channel == row.lpcn) (number == slot.slot) lists.carriers
+      ∙ sym (found_any (λ row. row.lpcn) channel (λ row. channel == row.lpcn) (λ row. turned channel row.lpcn)
+      (λ row. (row.number == slot.carrier) && (number == slot.slot)) lists.carriers are_lists.carriers.apart.lpcns)
+      ∙ this_found (find (λ (row : CarrierRow). channel == row.lpcn) lists.carriers) number slot
+    where
+      turned : (m n : ℕ) → (m == n) ≡ (n == m)
+      turned m n = grind (arith, nat_tests)
+
+  -- a PDU names the slot that it grants, and no other
+  pub named_granted : (pdu : Pdu) → named (row_with lists.carriers slot.carrier) slot pdu ≡ is_this (slot_granted lists pdu) slot
+  named_granted (PvGrant channel number target source) = named_tuned channel number
+  named_granted (TvGrant channel number late target source) = named_tuned channel number
+  named_granted _ = never (row_with lists.carriers slot.carrier)
+
+-- ---- the grants of a slot among PDUs
+
+-- the number of those of a slot of the carrier with this row, if there is one
+abbrev counted : Option CarrierRow → Slot → List Pdu → ℕ
+counted found slot xs = option_map_or (λ (row : CarrierRow). count_by (names row.lpcn slot.slot) xs) found 0
+
+in_more : (found : Option CarrierRow) (slot : Slot) (xs : List Pdu) (pdu : Pdu)
+    → counted found slot (xs ++ pdu ∷ []) ≡ counted found slot xs + cond (named found slot pdu) 1 0
+in_more None slot xs pdu = refl
+in_more (Some row) slot xs pdu = sum_by_push (λ y. cond (names row.lpcn slot.slot y) 1 0) xs pdu
+
+in_less : (found : Option CarrierRow) (slot : Slot) (xs : List Pdu) (pdu : Pdu) → slice_get xs 0 ≡ Some pdu
+    → counted found slot xs ≡ counted found slot (drop 1 xs) + cond (named found slot pdu) 1 0
+in_less None slot xs pdu first = refl
+in_less (Some row) slot xs pdu first = less (names row.lpcn slot.slot) xs pdu first
+  where
+    less : (p : Pdu → Bool) (ys : List Pdu) (y : Pdu) → slice_get ys 0 ≡ Some y → count_by p ys ≡ count_by p (drop 1 ys) + cond (p y) 1 0
+    less p [] y h = cc
+    less p (z ∷ zs) y h = let same : z ≡ y = cc in sum_by-cons (λ x. cond (p x) 1 0) z zs ∙ (rw same (omega arith))
+
+in_few : (found : Option CarrierRow) (slot : Slot) (xs : List Pdu) → counted found slot xs ≤ length xs
+in_few None slot xs = omega arith
+in_few (Some row) slot xs = count_by-le-length (names row.lpcn slot.slot) xs
+
+in_none : (found : Option CarrierRow) (slot : Slot) → counted found slot [] ≡ 0
+in_none None slot = refl
+in_none (Some row) slot = refl
 
 -- a grant waits exactly if the number of those that wait is not 0
 some_count : (p : Pdu → Bool) (xs : List Pdu) → list_any p xs ≡ nat_lt 0 (count_by p xs)
 some_count p [] = refl
-some_count p (x ∷ xs) = either (p x) refl (some_count p xs)
+some_count p (x ∷ xs) = either (p x) (some_count p xs) ∙ ap (nat_lt 0) (sym (sum_by-cons (λ y. cond (p y) 1 0) x xs))
   where
-    either : (b : Bool) → p x ≡ b → list_any p xs ≡ nat_lt 0 (count_by p xs) → (b || list_any p xs) ≡ nat_lt 0 (count_by p (x ∷ xs))
-    either true e more = let n : count_by p (x ∷ xs) ≡ 1 + count_by p xs = sum_by-cons (λ y. cond (p y) 1 0) x xs ∙ ap (λ b. cond b 1 0 + count_by p xs) e in rw n (positive (count_by p xs))
-      where
-        positive : (n : ℕ) → true ≡ nat_lt 0 (1 + n)
-        positive n = grind (arith, nat_tests)
-    either false e more = let n : count_by p (x ∷ xs) ≡ count_by p xs = sum_by-cons (λ y. cond (p y) 1 0) x xs ∙ ap (λ b. cond b 1 0 + count_by p xs) e ∙ zero-add (count_by p xs) in rw n more
+    positive : (n : ℕ) → true ≡ nat_lt 0 (1 + n)
+    positive n = grind (arith, nat_tests)
 
-pub granted_count : (plan : Settings) (outboxes : List (List Pdu)) (slot : Slot) → is_granted plan outboxes slot ≡ nat_lt 0 (grants_of plan outboxes slot)
-granted_count plan outboxes slot = either (row_with plan.carriers slot.carrier)
+    either : (b : Bool) → list_any p xs ≡ nat_lt 0 (count_by p xs) → (b || list_any p xs) ≡ nat_lt 0 (cond b 1 0 + count_by p xs)
+    either true more = positive (count_by p xs)
+    either false more = more ∙ ap (nat_lt 0) (sym (zero-add (count_by p xs)))
+
+pub granted_count : (lists : ListSection) (outboxes : List (List Pdu)) (slot : Slot)
+    → is_granted lists outboxes slot ≡ nat_lt 0 (grants_of lists outboxes slot)
+granted_count lists outboxes slot = either (row_with lists.carriers slot.carrier)
   where
-    either : (found : Option CarrierRow) → option_map_or (λ (row : CarrierRow). list_any (names row.lpcn slot.slot) (box outboxes (control_slot plan))) found false
-        ≡ nat_lt 0 (option_map_or (λ (row : CarrierRow). count_by (names row.lpcn slot.slot) (box outboxes (control_slot plan))) found 0)
+    waiting : List Pdu
+    waiting = box outboxes (control_slot lists)
+
+    either : (found : Option CarrierRow)
+        → option_map_or (λ (row : CarrierRow). list_any (names row.lpcn slot.slot) waiting) found false ≡ nat_lt 0 (counted found slot waiting)
     either None = refl
-    either (Some row) = some_count (names row.lpcn slot.slot) (box outboxes (control_slot plan))
+    either (Some row) = some_count (names row.lpcn slot.slot) waiting
 
--- the number of waiting grants of a slot after a PDU is added to the control slot's outbox
-counted_more : (p : Pdu → Bool) (xs : List Pdu) (x : Pdu) → count_by p (xs ++ x ∷ []) ≡ count_by p xs + cond (p x) 1 0
-counted_more p xs x = sum_by_push (λ y. cond (p y) 1 0) xs x
+-- ---- the control slot's outbox after a slot's outbox was changed
 
-counted_less : (p : Pdu → Bool) (xs : List Pdu) (x : Pdu) → slice_get xs 0 ≡ Some x → count_by p xs ≡ count_by p (drop 1 xs) + cond (p x) 1 0
-counted_less p [] x h = cc
-counted_less p (y ∷ ys) x h = let same : y ≡ x = cc in sum_by-cons (λ z. cond (p z) 1 0) y ys ∙ (rw same (omega arith))
+module _ (lists : ListSection) (outboxes : List (List Pdu)) (slot : Slot) (xs : List Pdu) where
+  control_is : is_control lists slot ≡ true → slot ≡ control_slot lists
+  control_is h =
+      let parts = and_parts (slot.carrier == lists.control) (slot.slot == 0) h in
+      let carrier : slot.carrier ≡ lists.control = eqb-true slot.carrier lists.control parts.0 in
+      let number : slot.slot ≡ 0 = eqb-true slot.slot 0 parts.1 in
+      λ i. record { carrier = carrier i; slot = number i }
 
--- the number of grants of a slot among PDUs
-abbrev pub grants_in : Settings → List Pdu → Slot → ℕ
-grants_in plan xs slot = option_map_or (λ (row : CarrierRow). count_by (names row.lpcn slot.slot) xs) (row_with plan.carriers slot.carrier) 0
+  control_box : is_control lists slot ≡ true → place slot < length outboxes
+      → box (slice_set outboxes (place slot) xs) (control_slot lists) ≡ xs
+  control_box h within =
+      subst (λ (s : Slot). box (slice_set outboxes (place slot) xs) s ≡ xs) (control_is h)
+      (get_or-set_same outboxes (place slot) xs [] within)
 
-in_more : (plan : Settings) (xs : List Pdu) (pdu : Pdu) (slot : Slot) → grants_in plan (xs ++ pdu ∷ []) slot ≡ grants_in plan xs slot + cond (names_slot plan slot pdu) 1 0
-in_more plan xs pdu slot = either (row_with plan.carriers slot.carrier)
-  where
-    counted : List Pdu → Option CarrierRow → ℕ
-    counted ys found = option_map_or (λ (row : CarrierRow). count_by (names row.lpcn slot.slot) ys) found 0
+  other_box : slot.slot < 2 → is_control lists slot ≡ false
+      → box (slice_set outboxes (place slot) xs) (control_slot lists) ≡ box outboxes (control_slot lists)
+  other_box small h = get_or-set_other outboxes (place slot) (place (control_slot lists)) xs []
+      (λ same. absurd (apart slot.carrier lists.control slot.slot small (omega (arith, same)) (omega (arith, same)) h))
+    where
+      apart : (c d s : ℕ) → s < 2 → c ≡ d → s ≡ 0 → ((c == d) && (s == 0)) ≡ false → ⊥
+      apart c d s small e k h = grind (arith, nat_tests)
 
-    either : (found : Option CarrierRow) → counted (xs ++ pdu ∷ []) found ≡ counted xs found + cond (option_map_or (λ (row : CarrierRow). names row.lpcn slot.slot pdu) found false) 1 0
-    either None = refl
-    either (Some row) = counted_more (names row.lpcn slot.slot) xs pdu
-
-in_less : (plan : Settings) (xs : List Pdu) (pdu : Pdu) (slot : Slot) → slice_get xs 0 ≡ Some pdu → grants_in plan xs slot ≡ grants_in plan (drop 1 xs) slot + cond (names_slot plan slot pdu) 1 0
-in_less plan xs pdu slot first = either (row_with plan.carriers slot.carrier)
-  where
-    counted : List Pdu → Option CarrierRow → ℕ
-    counted ys found = option_map_or (λ (row : CarrierRow). count_by (names row.lpcn slot.slot) ys) found 0
-
-    either : (found : Option CarrierRow) → counted xs found ≡ counted (drop 1 xs) found + cond (option_map_or (λ (row : CarrierRow). names row.lpcn slot.slot pdu) found false) 1 0
-    either None = refl
-    either (Some row) = counted_less (names row.lpcn slot.slot) xs pdu first
-
-in_few : (plan : Settings) (xs : List Pdu) (slot : Slot) → grants_in plan xs slot ≤ length xs
-in_few plan xs slot = either (row_with plan.carriers slot.carrier)
-  where
-    either : (found : Option CarrierRow) → option_map_or (λ (row : CarrierRow). count_by (names row.lpcn slot.slot) xs) found 0 ≤ length xs
-    either None = omega arith
-    either (Some row) = count_by-le-length (names row.lpcn slot.slot) xs
-
--- the control slot, and another
-both : (a b : Bool) → (a && b) ≡ true → (a ≡ true) × (b ≡ true)
-both true true h = (refl, refl)
-both true false h = cc
-both false b h = cc
-
-control_is : (plan : Settings) (slot : Slot) → is_control plan slot ≡ true → slot ≡ control_slot plan
-control_is plan slot h =
-    let parts = both (slot.carrier == plan.control) (slot.slot == 0) h in
-    let carrier : slot.carrier ≡ plan.control = eqb-true slot.carrier plan.control parts.0 in
-    let number : slot.slot ≡ 0 = eqb-true slot.slot 0 parts.1 in
-    λ i. record { carrier = carrier i; slot = number i }
-
-control_apart : (plan : Settings) (slot : Slot) → slot.slot < 2 → is_control plan slot ≡ false → place (control_slot plan) ≢ place slot
-control_apart plan slot small h = λ same. absurd (apart slot.carrier plan.control slot.slot small (omega (arith, same)) (omega (arith, same)) h)
-  where
-    apart : (c d s : ℕ) → s < 2 → c ≡ d → s ≡ 0 → ((c == d) && (s == 0)) ≡ false → ⊥
-    apart c d s small e k h = grind (arith, nat_tests)
-
--- the control slot's outbox after a slot's outbox was changed
-control_box : (plan : Settings) (outboxes : List (List Pdu)) (slot : Slot) (xs : List Pdu) → is_control plan slot ≡ true → place slot < length outboxes → box (slice_set outboxes (place slot) xs) (control_slot plan) ≡ xs
-control_box plan outboxes slot xs h within =
-    subst (λ (s : Slot). box (slice_set outboxes (place slot) xs) s ≡ xs) (control_is plan slot h) (get_or-set_same outboxes (place slot) xs [] within)
-
-other_box : (plan : Settings) (outboxes : List (List Pdu)) (slot : Slot) (xs : List Pdu) → slot.slot < 2 → is_control plan slot ≡ false → box (slice_set outboxes (place slot) xs) (control_slot plan) ≡ box outboxes (control_slot plan)
-other_box plan outboxes slot xs small h = get_or-set_other outboxes (place slot) (place (control_slot plan)) xs [] (control_apart plan slot small h)
-
--- the slot whose count changes
-named_counted : (plan : Settings) (slot s : Slot) (pdu : Pdu) → IsPlan plan → (is_control plan slot && names_slot plan s pdu) ≡ is_this (slot_counted plan slot pdu) s
-named_counted plan slot s pdu is = either (is_control plan slot)
-  where
-    either : (b : Bool) → (b && names_slot plan s pdu) ≡ is_this (if b then slot_granted plan pdu else None) s
-    either true = named_granted plan s pdu is
-    either false = refl
-
--- the number of waiting grants of each slot after a PDU is added to an outbox
-pub grants_queued : (plan : Settings) (outboxes : List (List Pdu)) (slot s : Slot) (pdu : Pdu) → IsPlan plan → IsSlot slot → place slot < length outboxes
-    → grants_of plan (outboxes_with_pdu outboxes slot pdu) s ≡ grants_of plan outboxes s + cond (is_this (slot_counted plan slot pdu) s) 1 0
-grants_queued plan outboxes slot s pdu is_plan is within = either (is_control plan slot) refl ∙ ap (λ b. grants_of plan outboxes s + cond b 1 0) (named_counted plan slot s pdu is_plan)
-  where
-    either : (b : Bool) → is_control plan slot ≡ b → grants_of plan (outboxes_with_pdu outboxes slot pdu) s ≡ grants_of plan outboxes s + cond (b && names_slot plan s pdu) 1 0
-    either true e =
-        ap (λ (xs : List Pdu). grants_in plan xs s) (control_box plan outboxes slot (box outboxes slot ++ pdu ∷ []) e within ∙ ap (λ (t : Slot). box outboxes t ++ pdu ∷ []) (control_is plan slot e))
-        ∙ in_more plan (box outboxes (control_slot plan)) pdu s
-    either false e = ap (λ (xs : List Pdu). grants_in plan xs s) (other_box plan outboxes slot (box outboxes slot ++ pdu ∷ []) is.1 e) ∙ omega arith
-
--- the same after one is removed
-pub grants_sent : (plan : Settings) (outboxes : List (List Pdu)) (slot s : Slot) (pdu : Pdu) → IsPlan plan → IsSlot slot → place slot < length outboxes → slice_get (box outboxes slot) 0 ≡ Some pdu
-    → grants_of plan outboxes s ≡ grants_of plan (outboxes_after_send outboxes slot) s + cond (is_this (slot_counted plan slot pdu) s) 1 0
-grants_sent plan outboxes slot s pdu is_plan is within first = either (is_control plan slot) refl ∙ ap (λ b. grants_of plan (outboxes_after_send outboxes slot) s + cond b 1 0) (named_counted plan slot s pdu is_plan)
-  where
-    either : (b : Bool) → is_control plan slot ≡ b → grants_of plan outboxes s ≡ grants_of plan (outboxes_after_send outboxes slot) s + cond (b && names_slot plan s pdu) 1 0
-    either true e =
-        let there : box (outboxes_after_send outboxes slot) (control_slot plan) ≡ drop 1 (box outboxes (control_slot plan)) =
-        control_box plan outboxes slot (drop 1 (box outboxes slot)) e within ∙ ap (λ (t : Slot). drop 1 (box outboxes t)) (control_is plan slot e) in
-        in_less plan (box outboxes (control_slot plan)) pdu s (subst (λ (t : Slot). slice_get (box outboxes t) 0 ≡ Some pdu) (control_is plan slot e) first)
-        ∙ ap (λ (xs : List Pdu). grants_in plan xs s + cond (names_slot plan s pdu) 1 0) (sym there)
-    either false e = ap (λ (xs : List Pdu). grants_in plan xs s) (sym (other_box plan outboxes slot (drop 1 (box outboxes slot)) is.1 e)) ∙ omega arith
+-- ---- counts of which one is more
 
 -- a slot is the one at a place exactly if the place is its own
 pub this_at : (s : Slot) (k : ℕ) → s.slot < 2 → is_this (Some s) (slot_at k) ≡ (k == place s)
@@ -240,127 +194,179 @@ this_itself s = same s.carrier s.slot
     same : (c n : ℕ) → ((c == c) && (n == n)) ≡ true
     same c n = grind (arith, nat_tests)
 
+one_more : (fewer more : List ℕ) (s : Slot) → s.slot < 2
+    → ((k : ℕ) → k ≢ place s → slice_index_or more k 0 ≡ slice_index_or fewer k 0)
+    → slice_index_or more (place s) 0 ≡ slice_index_or fewer (place s) 0 + 1 → IsOneMore fewer (Some s) more
+one_more fewer more s small others here k below =
+    either (k == place s) refl ∙ ap (λ b. slice_index_or fewer k 0 + cond b 1 0) (sym (this_at s k small))
+  where
+    either : (b : Bool) → (k == place s) ≡ b → slice_index_or more k 0 ≡ slice_index_or fewer k 0 + cond b 1 0
+    either true e = subst (λ n. slice_index_or more n 0 ≡ slice_index_or fewer n 0 + 1) (sym (eqb-true k (place s) e)) here
+    either false e = others k (eqb-false k (place s) e) ∙ omega arith
+
 -- a count that is raised, or lowered, among the others
-raised : (counts : List ℕ) (at k : ℕ) → at < length counts → slice_index_or (slice_set counts at (slice_index_or counts at 0 + 1)) k 0 ≡ slice_index_or counts k 0 + cond (k == at) 1 0
-raised counts at k within = either (k == at) refl
-  where
-    either : (b : Bool) → (k == at) ≡ b → slice_index_or (slice_set counts at (slice_index_or counts at 0 + 1)) k 0 ≡ slice_index_or counts k 0 + cond b 1 0
-    either true e =
-        let same : at ≡ k = sym (eqb-true k at e) in
-        subst (λ n. slice_index_or (slice_set counts at (slice_index_or counts at 0 + 1)) n 0 ≡ slice_index_or counts n 0 + 1) same (get_or-set_same counts at (slice_index_or counts at 0 + 1) 0 within)
-    either false e = get_or-set_other counts at k (slice_index_or counts at 0 + 1) 0 (eqb-false k at e) ∙ omega arith
+module _ (counts : List ℕ) (s : Slot) (i : ℕ) (is : IsSlot s) (at : i ≡ place s) (size : length counts ≡ 32) where
+  pub one_raised : IsOneMore counts (Some s) (slice_set counts i (slice_index_or counts i 0 + 1))
+  one_raised = subst (λ n. IsOneMore counts (Some s) (slice_set counts n (slice_index_or counts n 0 + 1))) (sym at)
+      (one_more counts _ s is.1 (λ k apart. get_or-set_other counts (place s) k _ 0 apart)
+      (get_or-set_same counts (place s) _ 0 (omega (arith, is.0, is.1, size))))
 
-lowered : (counts : List ℕ) (at k : ℕ) → at < length counts → 1 ≤ slice_index_or counts at 0 → slice_index_or counts k 0 ≡ slice_index_or (slice_set counts at (slice_index_or counts at 0 - 1)) k 0 + cond (k == at) 1 0
-lowered counts at k within some = either (k == at) refl
-  where
-    either : (b : Bool) → (k == at) ≡ b → slice_index_or counts k 0 ≡ slice_index_or (slice_set counts at (slice_index_or counts at 0 - 1)) k 0 + cond b 1 0
-    either true e =
-        let same : at ≡ k = sym (eqb-true k at e) in
-        subst (λ n. slice_index_or counts n 0 ≡ slice_index_or (slice_set counts at (slice_index_or counts at 0 - 1)) n 0 + 1) same (omega (arith, get_or-set_same counts at (slice_index_or counts at 0 - 1) 0 within))
-    either false e = sym (get_or-set_other counts at k (slice_index_or counts at 0 - 1) 0 (eqb-false k at e)) ∙ omega arith
+  pub one_lowered : 1 ≤ slice_index_or counts i 0 → IsOneMore (slice_set counts i (slice_index_or counts i 0 - 1)) (Some s) counts
+  one_lowered some = subst (λ n. IsOneMore (slice_set counts n (slice_index_or counts n 0 - 1)) (Some s) counts) (sym at)
+      (one_more _ counts s is.1 (λ k apart. sym (get_or-set_other counts (place s) k _ 0 apart)) (omega (
+        arith,
+        get_or-set_same counts (place s) (slice_index_or counts (place s) 0 - 1) 0 (omega (arith, is.0, is.1, size)),
+        subst (λ n. 1 ≤ slice_index_or counts n 0) at some,
+      )))
 
--- the counts after a PDU is added that is not a grant of the site's slots
-pub queued_uncounted : (plan : Settings) (outboxes : List (List Pdu)) (counts : List ℕ) (slot : Slot) (pdu : Pdu) → IsPlan plan → IsSlot slot → place slot < length outboxes → slot_counted plan slot pdu ≡ None
-    → AreCounted plan outboxes counts → AreCounted plan (outboxes_with_pdu outboxes slot pdu) counts
-queued_uncounted plan outboxes counts slot pdu is_plan is within none counted k below =
-    counted k below ∙ sym (grants_queued plan outboxes slot (slot_at k) pdu is_plan is within ∙ ap (λ (t : Option Slot). grants_of plan outboxes (slot_at k) + cond (is_this t (slot_at k)) 1 0) none ∙ omega arith)
+-- what holds of each place whose slot is this one holds of its own place
+pub at_its_place : (P : ℕ → Type 0) (one : Option Slot) (s : Slot) (i : ℕ) → one ≡ Some s → IsSlot s → i ≡ place s
+    → ((k : ℕ) → k < 32 → is_this one (slot_at k) ≡ true → P k) → P i
+at_its_place P one s i it is at holds = holds i (omega (arith, is.0, is.1, at))
+    (ap (λ o. is_this o (slot_at i)) it ∙ ap (is_this (Some s)) (ap slot_at at ∙ slot_at-place s is) ∙ this_itself s)
 
--- the counts after a grant is added
-pub queued_counted : (plan : Settings) (outboxes : List (List Pdu)) (counts : List ℕ) (slot granted : Slot) (pdu : Pdu) → IsPlan plan → IsSlot slot → place slot < length outboxes → slot_counted plan slot pdu ≡ Some granted → IsSlot granted → length counts ≡ 32
-    → AreCounted plan outboxes counts → AreCounted plan (outboxes_with_pdu outboxes slot pdu) (slice_set counts (place granted) (slice_index_or counts (place granted) 0 + 1))
-queued_counted plan outboxes counts slot granted pdu is_plan is within one is_granted size counted k below =
-    raised counts (place granted) k (omega (arith, is_granted.0, is_granted.1, size))
-    ∙ ap (λ n. n + cond (k == place granted) 1 0) (counted k below)
-    ∙ ap (λ b. grants_of plan outboxes (slot_at k) + cond b 1 0) (sym (this_at granted k is_granted.1))
-    ∙ ap (λ (t : Option Slot). grants_of plan outboxes (slot_at k) + cond (is_this t (slot_at k)) 1 0) (sym one)
-    ∙ sym (grants_queued plan outboxes slot (slot_at k) pdu is_plan is within)
+pub none_more : (counts : List ℕ) → IsOneMore counts None counts
+none_more counts k below = omega arith
 
--- the counts after a PDU is removed that is not a grant of the site's slots
-pub sent_uncounted : (plan : Settings) (outboxes : List (List Pdu)) (counts : List ℕ) (slot : Slot) (pdu : Pdu) → IsPlan plan → IsSlot slot → place slot < length outboxes → slice_get (box outboxes slot) 0 ≡ Some pdu → slot_counted plan slot pdu ≡ None
-    → AreCounted plan outboxes counts → AreCounted plan (outboxes_after_send outboxes slot) counts
-sent_uncounted plan outboxes counts slot pdu is_plan is within first none counted k below =
-    counted k below ∙ grants_sent plan outboxes slot (slot_at k) pdu is_plan is within first ∙ ap (λ (t : Option Slot). grants_of plan (outboxes_after_send outboxes slot) (slot_at k) + cond (is_this t (slot_at k)) 1 0) none ∙ omega arith
+-- ---- the counts after a PDU is added to an outbox, or removed
 
--- the counts after a grant is removed: at least one waited
-pub some_waited : (plan : Settings) (outboxes : List (List Pdu)) (counts : List ℕ) (slot granted : Slot) (pdu : Pdu) → IsPlan plan → IsSlot slot → place slot < length outboxes → slice_get (box outboxes slot) 0 ≡ Some pdu → slot_counted plan slot pdu ≡ Some granted → IsSlot granted
-    → AreCounted plan outboxes counts → 1 ≤ slice_index_or counts (place granted) 0
-some_waited plan outboxes counts slot granted pdu is_plan is within first one is_granted counted =
-    let here : is_this (Some granted) (slot_at (place granted)) ≡ true = this_at granted (place granted) is_granted.1 ∙ itself (place granted) in
-    let more : grants_of plan outboxes (slot_at (place granted)) ≡ grants_of plan (outboxes_after_send outboxes slot) (slot_at (place granted)) + 1 =
-    grants_sent plan outboxes slot (slot_at (place granted)) pdu is_plan is within first
-    ∙ ap (λ (t : Option Slot). grants_of plan (outboxes_after_send outboxes slot) (slot_at (place granted)) + cond (is_this t (slot_at (place granted))) 1 0) one
-    ∙ ap (λ b. grants_of plan (outboxes_after_send outboxes slot) (slot_at (place granted)) + cond b 1 0) here in
-    at_least (slice_index_or counts (place granted) 0) _ (counted (place granted) (omega (arith, is_granted.0, is_granted.1)) ∙ more)
-  where
-    itself : (n : ℕ) → (n == n) ≡ true
-    itself n = grind (arith, nat_tests)
+module _ (lists : ListSection) (are_lists : IsListSection lists) (outboxes : List (List Pdu)) (slot : Slot) (pdu : Pdu) (is : IsSlot slot)
+    (within : place slot < length outboxes) where
+  abbrev row : Slot → Option CarrierRow
+  row s = row_with lists.carriers s.carrier
 
-    at_least : (m n : ℕ) → m ≡ n + 1 → 1 ≤ m
-    at_least m n e = omega arith
+  abbrev granted : Option Slot
+  granted = slot_counted lists slot pdu
 
-pub sent_counted : (plan : Settings) (outboxes : List (List Pdu)) (counts : List ℕ) (slot granted : Slot) (pdu : Pdu) → IsPlan plan → IsSlot slot → place slot < length outboxes → slice_get (box outboxes slot) 0 ≡ Some pdu → slot_counted plan slot pdu ≡ Some granted → IsSlot granted → length counts ≡ 32
-    → AreCounted plan outboxes counts → AreCounted plan (outboxes_after_send outboxes slot) (slice_set counts (place granted) (slice_index_or counts (place granted) 0 - 1))
-sent_counted plan outboxes counts slot granted pdu is_plan is within first one is_granted size counted k below =
-    cancelled _ _ (cond (k == place granted) 1 0) (
-    sym (lowered counts (place granted) k (omega (arith, is_granted.0, is_granted.1, size)) (some_waited plan outboxes counts slot granted pdu is_plan is within first one is_granted counted))
-    ∙ counted k below
-    ∙ grants_sent plan outboxes slot (slot_at k) pdu is_plan is within first
-    ∙ ap (λ (t : Option Slot). grants_of plan (outboxes_after_send outboxes slot) (slot_at k) + cond (is_this t (slot_at k)) 1 0) one
-    ∙ ap (λ b. grants_of plan (outboxes_after_send outboxes slot) (slot_at k) + cond b 1 0) (this_at granted k is_granted.1)
-    )
-  where
-    cancelled : (m n d : ℕ) → m + d ≡ n + d → m ≡ n
-    cancelled m n d e = omega arith
+  -- the slot whose count changes
+  changes : (s : Slot) → (is_control lists slot && named (row s) s pdu) ≡ is_this granted s
+  changes s = either (is_control lists slot)
+    where
+      either : (b : Bool) → (b && named (row s) s pdu) ≡ is_this (if b then slot_granted lists pdu else None) s
+      either true = named_granted lists are_lists s pdu
+      either false = refl
+
+  pub grants_queued : (s : Slot) → grants_of lists (outboxes_with_pdu outboxes slot pdu) s ≡ grants_of lists outboxes s + cond (is_this granted s) 1 0
+  grants_queued s = either (is_control lists slot) refl ∙ ap (λ b. grants_of lists outboxes s + cond b 1 0) (changes s)
+    where
+      either : (b : Bool) → is_control lists slot ≡ b → grants_of lists (outboxes_with_pdu outboxes slot pdu) s
+          ≡ grants_of lists outboxes s + cond (b && named (row s) s pdu) 1 0
+      either true e =
+          let there : box (outboxes_with_pdu outboxes slot pdu) (control_slot lists) ≡ box outboxes (control_slot lists) ++ pdu ∷ [] =
+          control_box lists outboxes slot _ e within ∙ ap (λ (t : Slot). box outboxes t ++ pdu ∷ []) (control_is lists outboxes slot [] e) in
+          ap (counted (row s) s) there ∙ in_more (row s) s (box outboxes (control_slot lists)) pdu
+      either false e = ap (counted (row s) s) (other_box lists outboxes slot _ is.1 e) ∙ omega arith
+
+  pub grants_sent : slice_get (box outboxes slot) 0 ≡ Some pdu → (s : Slot)
+      → grants_of lists outboxes s ≡ grants_of lists (outboxes_after_send outboxes slot) s + cond (is_this granted s) 1 0
+  grants_sent first s =
+      either (is_control lists slot) refl ∙ ap (λ b. grants_of lists (outboxes_after_send outboxes slot) s + cond b 1 0) (changes s)
+    where
+      either : (b : Bool) → is_control lists slot ≡ b → grants_of lists outboxes s
+          ≡ grants_of lists (outboxes_after_send outboxes slot) s + cond (b && named (row s) s pdu) 1 0
+      either true e =
+          let control = control_is lists outboxes slot [] e in
+          let there : box (outboxes_after_send outboxes slot) (control_slot lists) ≡ drop 1 (box outboxes (control_slot lists)) =
+          control_box lists outboxes slot _ e within ∙ ap (λ (t : Slot). drop 1 (box outboxes t)) control in
+          in_less (row s) s (box outboxes (control_slot lists)) pdu (subst (λ (t : Slot). slice_get (box outboxes t) 0 ≡ Some pdu) control first)
+          ∙ ap (λ (xs : List Pdu). counted (row s) s xs + cond (named (row s) s pdu) 1 0) (sym there)
+      either false e = ap (counted (row s) s) (sym (other_box lists outboxes slot (drop 1 (box outboxes slot)) is.1 e)) ∙ omega arith
+
+  pub counted_queued : (before after : List ℕ) → AreCounted lists outboxes before → IsOneMore before granted after
+      → AreCounted lists (outboxes_with_pdu outboxes slot pdu) after
+  counted_queued before after are more k below =
+      more k below ∙ ap (λ n. n + cond (is_this granted (slot_at k)) 1 0) (are k below) ∙ sym (grants_queued (slot_at k))
+
+  pub counted_sent : (before after : List ℕ) → slice_get (box outboxes slot) 0 ≡ Some pdu → AreCounted lists outboxes before
+      → IsOneMore after granted before → AreCounted lists (outboxes_after_send outboxes slot) after
+  counted_sent before after first are more k below =
+      cancelled _ _ (cond (is_this granted (slot_at k)) 1 0) (sym (more k below) ∙ are k below ∙ grants_sent first (slot_at k))
+    where
+      cancelled : (m n d : ℕ) → m + d ≡ n + d → m ≡ n
+      cancelled m n d e = omega arith
+
+  -- the count of the slot that the PDU grants is not 0
+  pub some_wait : (counts : List ℕ) → slice_get (box outboxes slot) 0 ≡ Some pdu → AreCounted lists outboxes counts → (k : ℕ) → k < 32
+      → is_this granted (slot_at k) ≡ true → 1 ≤ slice_index_or counts k 0
+  some_wait counts first are k below this =
+      at_least _ _ (are k below ∙ grants_sent first (slot_at k)
+      ∙ ap (λ b. grants_of lists (outboxes_after_send outboxes slot) (slot_at k) + cond b 1 0) this)
+    where
+      at_least : (m n : ℕ) → m ≡ n + 1 → 1 ≤ m
+      at_least m n e = omega arith
 
 -- the count of a slot is not 0 exactly if a grant of it waits
-pub counted_granted : (plan : Settings) (outboxes : List (List Pdu)) (counts : List ℕ) (slot : Slot) (k : ℕ) → IsSlot slot → k ≡ place slot → AreCounted plan outboxes counts → nat_lt 0 (slice_index_or counts k 0) ≡ is_granted plan outboxes slot
-counted_granted plan outboxes counts slot k is at counted =
-    ap (nat_lt 0) (counted k (omega (arith, is.0, is.1)) ∙ ap (grants_of plan outboxes) (ap slot_at at ∙ slot_at-place slot is)) ∙ sym (granted_count plan outboxes slot)
+pub counted_granted : (lists : ListSection) (outboxes : List (List Pdu)) (counts : List ℕ) (slot : Slot) (k : ℕ) → IsSlot slot
+    → k ≡ place slot → AreCounted lists outboxes counts → nat_lt 0 (slice_index_or counts k 0) ≡ is_granted lists outboxes slot
+counted_granted lists outboxes counts slot k is at are =
+    ap (nat_lt 0) (are k (omega (arith, is.0, is.1)) ∙ ap (grants_of lists outboxes) (ap slot_at at ∙ slot_at-place slot is))
+    ∙ sym (granted_count lists outboxes slot)
 
 few_there : (outboxes : List (List Pdu)) (k : ℕ) → All (λ box. length box ≤ 64) outboxes → length (slice_index_or outboxes k []) ≤ 64
 few_there outboxes k few = either (cases_lt k (length outboxes))
   where
-    past : (boxes : List (List Pdu)) (n : ℕ) → length boxes ≤ n → length (slice_index_or boxes n []) ≤ 64
-    past [] n h = omega arith
-    past (x ∷ xs) zero h = absurd (omega arith)
-    past (x ∷ xs) (suc n) h = past xs n (omega arith)
-
     either : (k < length outboxes) ⊎ (length outboxes ≤ k) → length (slice_index_or outboxes k []) ≤ 64
     either (inl within) = All-get_or (λ (box : List Pdu). length box ≤ 64) outboxes k [] within few
-    either (inr beyond) = past outboxes k beyond
+    either (inr beyond) = omega (arith, ap length (get_or_past outboxes k [] beyond))
 
 -- a count is at most the number of PDUs that wait for the control slot
-pub few_counted : (plan : Settings) (outboxes : List (List Pdu)) (counts : List ℕ) (k : ℕ) → k < 32 → All (λ box. length box ≤ 64) outboxes → AreCounted plan outboxes counts → slice_index_or counts k 0 ≤ 64
-few_counted plan outboxes counts k below few counted = omega (arith, counted k below, in_few plan (box outboxes (control_slot plan)) (slot_at k), few_there outboxes (place (control_slot plan)) few)
+pub few_counted : (lists : ListSection) (outboxes : List (List Pdu)) (counts : List ℕ) (k : ℕ) → k < 32
+    → All (λ box. length box ≤ 64) outboxes → AreCounted lists outboxes counts → slice_index_or counts k 0 ≤ 64
+few_counted lists outboxes counts k below few are = omega (
+  arith,
+  are k below,
+  in_few (row_with lists.carriers ((slot_at k).carrier)) (slot_at k) (box outboxes (control_slot lists)),
+  few_there outboxes (place (control_slot lists)) few,
+)
 
--- the slots of a carrier are emptied
-zeros : (n k : ℕ) → slice_index_or {A = ℕ} (replicate n 0) k 0 ≡ 0
-zeros zero k = refl
-zeros (suc n) zero = refl
-zeros (suc n) (suc k) = zeros n k
+-- ---- the outboxes of a carrier's slots are emptied
 
-pub emptied_control : (plan : Settings) (outboxes : List (List Pdu)) (c : ℕ) → c ≡ plan.control → 2 * c + 1 < length outboxes → AreCounted plan (outboxes_without_carrier outboxes c) (replicate 32 0)
-emptied_control plan outboxes c is within k below = zeros 32 k ∙ sym (ap (λ (xs : List Pdu). grants_in plan xs (slot_at k)) gone ∙ none (row_with plan.carriers ((slot_at k).carrier)))
+-- each element of equal ones, and the same beyond them
+pub same_anywhere : {A : Type 0} (x : A) (n k : ℕ) → slice_index_or (replicate n x) k x ≡ x
+same_anywhere x zero k = refl
+same_anywhere x (suc n) zero = refl
+same_anywhere x (suc n) (suc k) = same_anywhere x n k
+
+-- no grant waits if no PDU waits for the control slot
+uncounted : (lists : ListSection) (outboxes : List (List Pdu)) → box outboxes (control_slot lists) ≡ []
+    → AreCounted lists outboxes (replicate 32 0)
+uncounted lists outboxes none k below =
+    let row = row_with lists.carriers ((slot_at k).carrier) in
+    same_anywhere 0 32 k ∙ sym (ap (counted row (slot_at k)) none ∙ in_none row (slot_at k))
+
+pub emptied_control : (lists : ListSection) (outboxes : List (List Pdu)) (c : ℕ) → c ≡ lists.control → 2 * c + 1 < length outboxes
+    → AreCounted lists (outboxes_without_carrier outboxes c) (replicate 32 0)
+emptied_control lists outboxes c is within = uncounted lists (outboxes_without_carrier outboxes c) gone
   where
-    first : 2 * c ≡ place (control_slot plan)
+    first : 2 * c ≡ place (control_slot lists)
     first = omega (arith, is)
 
-    gone : box (outboxes_without_carrier outboxes c) (control_slot plan) ≡ []
+    gone : box (outboxes_without_carrier outboxes c) (control_slot lists) ≡ []
     gone =
-        get_or-set_other (slice_set outboxes (2 * c) []) (2 * c + 1) (place (control_slot plan)) [] [] (λ same. absurd (omega (arith, same)))
+        get_or-set_other (slice_set outboxes (2 * c) []) (2 * c + 1) (place (control_slot lists)) [] []
+        (λ same. absurd (omega (arith, same)))
         ∙ subst (λ n. slice_index_or (slice_set outboxes (2 * c) []) n [] ≡ []) first (get_or-set_same outboxes (2 * c) [] [] (omega arith))
 
-    none : (found : Option CarrierRow) → option_map_or (λ (row : CarrierRow). count_by (names row.lpcn ((slot_at k).slot)) []) found 0 ≡ 0
-    none None = refl
-    none (Some row) = refl
-
-pub emptied_other : (plan : Settings) (outboxes : List (List Pdu)) (counts : List ℕ) (c : ℕ) → c ≢ plan.control → AreCounted plan outboxes counts → AreCounted plan (outboxes_without_carrier outboxes c) counts
-emptied_other plan outboxes counts c apart counted k below = counted k below ∙ sym (ap (λ (xs : List Pdu). grants_in plan xs (slot_at k)) stays)
+pub emptied_other : (lists : ListSection) (outboxes : List (List Pdu)) (counts : List ℕ) (c : ℕ) → c ≢ lists.control
+    → AreCounted lists outboxes counts → AreCounted lists (outboxes_without_carrier outboxes c) counts
+emptied_other lists outboxes counts c apart are k below =
+    are k below ∙ sym (ap (counted (row_with lists.carriers ((slot_at k).carrier)) (slot_at k)) stays)
   where
-    stays : box (outboxes_without_carrier outboxes c) (control_slot plan) ≡ box outboxes (control_slot plan)
+    stays : box (outboxes_without_carrier outboxes c) (control_slot lists) ≡ box outboxes (control_slot lists)
     stays =
-        get_or-set_other (slice_set outboxes (2 * c) []) (2 * c + 1) (place (control_slot plan)) [] [] (λ same. absurd (omega (arith, same)))
-        ∙ get_or-set_other outboxes (2 * c) (place (control_slot plan)) [] [] (λ same. apart (omega (arith, same)))
+        get_or-set_other (slice_set outboxes (2 * c) []) (2 * c + 1) (place (control_slot lists)) [] []
+        (λ same. absurd (omega (arith, same)))
+        ∙ get_or-set_other outboxes (2 * c) (place (control_slot lists)) [] [] (λ same. apart (omega (arith, same)))
+
+-- outboxes of which one was changed
+outboxes-set : (outboxes : List (List Pdu)) (i : ℕ) (xs : List Pdu) → length xs ≤ 64 → AreOutboxes outboxes
+    → AreOutboxes (slice_set outboxes i xs)
+outboxes-set outboxes i xs few h = record {
+  size = length-set outboxes i xs ∙ h.size;
+  few = All-set (λ (box : List Pdu). length box ≤ 64) outboxes i xs few h.few;
+}
+
+-- ---- outboxes and counts by the places and the outbox that the code names
 
 -- an element that exists, for any default value
 read_there : {X : Type 0} (xs : List X) (i : ℕ) (x d : X) → i < length xs → x ≡ slice_index_or xs i x → x ≡ slice_index_or xs i d
@@ -368,94 +374,81 @@ read_there [] i x d h e = absurd (omega arith)
 read_there (y ∷ ys) zero x d h e = e
 read_there (y ∷ ys) (suc i) x d h e = read_there ys i x d (omega arith) e
 
--- outboxes of which one was changed
-pub outboxes-set : (outboxes : List (List Pdu)) (i : ℕ) (xs : List Pdu) → length xs ≤ 64 → AreOutboxes outboxes → AreOutboxes (slice_set outboxes i xs)
-outboxes-set outboxes i xs few h = record { size = length-set outboxes i xs ∙ h.size; few = All-set (λ (box : List Pdu). length box ≤ 64) outboxes i xs few h.few }
+-- a PDU was added, or removed
+module _ (lists : ListSection) (outboxes : List (List Pdu)) (counts : List ℕ) (slot : Slot) (pdu : Pdu) (i : ℕ) (now : List Pdu)
+    (are_lists : IsListSection lists) (is : IsSlot slot) (at : i ≡ place slot) (there : now ≡ slice_index_or outboxes i now)
+    (kept : AreOutboxes outboxes) (are : AreCounted lists outboxes counts) where
+  within : place slot < length outboxes
+  within = omega (arith, kept.size, is.0, is.1)
 
-within_outboxes : (outboxes : List (List Pdu)) (slot : Slot) → IsSlot slot → AreOutboxes outboxes → place slot < length outboxes
-within_outboxes outboxes slot is h = omega (arith, h.size, is.0, is.1)
-
--- the outboxes and counts after a PDU was added, by the places and the outbox that the code names
-module _ (plan : Settings) (outboxes : List (List Pdu)) (counts : List ℕ) (slot : Slot) (pdu : Pdu) (i : ℕ) (now : List Pdu) (is_plan : IsPlan plan) (is : IsSlot slot) (at : i ≡ place slot) (there : now ≡ slice_index_or outboxes i now) (kept : AreOutboxes outboxes) (counted : AreCounted plan outboxes counts) where
   box_is : now ≡ box outboxes slot
-  box_is =
-      let within : i < length outboxes = omega (arith, within_outboxes outboxes slot is kept, at) in
-      read_there outboxes i now [] within there ∙ ap (λ n. slice_index_or outboxes n []) at
-
-  after_push : (new : List Pdu) → new ≡ now ++ pdu ∷ [] → slice_set outboxes i new ≡ outboxes_with_pdu outboxes slot pdu
-  after_push new e = λ k. slice_set outboxes (at k) ((e ∙ ap (λ (xs : List Pdu). xs ++ pdu ∷ []) box_is) k)
+  box_is = read_there outboxes i now [] (omega (arith, within, at)) there ∙ ap (λ n. slice_index_or outboxes n []) at
 
   pub pushed_kept : (new : List Pdu) → new ≡ now ++ pdu ∷ [] → length (box outboxes slot) < 64 → AreOutboxes (slice_set outboxes i new)
-  pushed_kept new e room = outboxes-set outboxes i new (omega (arith, ap length (e ∙ ap (λ (xs : List Pdu). xs ++ pdu ∷ []) box_is), length-append (box outboxes slot) (pdu ∷ []))) kept
+  pushed_kept new e room =
+      let more : length new ≡ length (box outboxes slot) + 1 =
+      ap length (e ∙ ap (λ (xs : List Pdu). xs ++ pdu ∷ []) box_is) ∙ length-append (box outboxes slot) (pdu ∷ []) in
+      outboxes-set outboxes i new (omega (arith, more)) kept
 
-  pub pushed_none : (new : List Pdu) → new ≡ now ++ pdu ∷ [] → slot_counted plan slot pdu ≡ None → AreCounted plan (slice_set outboxes i new) counts
-  pushed_none new e none = subst (λ (bs : List (List Pdu)). AreCounted plan bs counts) (sym (after_push new e)) (queued_uncounted plan outboxes counts slot pdu is_plan is (within_outboxes outboxes slot is kept) none counted)
-
-  pub pushed_one : (new : List Pdu) (granted : Slot) (j : ℕ) → new ≡ now ++ pdu ∷ [] → slot_counted plan slot pdu ≡ Some granted → IsSlot granted → j ≡ place granted → length counts ≡ 32
-      → AreCounted plan (slice_set outboxes i new) (slice_set counts j (slice_index_or counts j 0 + 1))
-  pushed_one new granted j e one is_granted there_j size =
-      subst (λ n. AreCounted plan (slice_set outboxes i new) (slice_set counts n (slice_index_or counts n 0 + 1))) (sym there_j)
-      (subst (λ (bs : List (List Pdu)). AreCounted plan bs (slice_set counts (place granted) (slice_index_or counts (place granted) 0 + 1))) (sym (after_push new e))
-      (queued_counted plan outboxes counts slot granted pdu is_plan is (within_outboxes outboxes slot is kept) one is_granted size counted))
-
-  after_take : (new : List Pdu) → new ≡ drop 1 now → slice_set outboxes i new ≡ outboxes_after_send outboxes slot
-  after_take new e = λ k. slice_set outboxes (at k) ((e ∙ ap (drop 1) box_is) k)
+  pub pushed_counted : (new : List Pdu) (after : List ℕ) → new ≡ now ++ pdu ∷ [] → IsOneMore counts (slot_counted lists slot pdu) after
+      → AreCounted lists (slice_set outboxes i new) after
+  pushed_counted new after e more =
+      let same : slice_set outboxes i new ≡ outboxes_with_pdu outboxes slot pdu =
+      λ k. slice_set outboxes (at k) ((e ∙ ap (λ (xs : List Pdu). xs ++ pdu ∷ []) box_is) k) in
+      subst (λ (bs : List (List Pdu)). AreCounted lists bs after) (sym same)
+      (counted_queued lists are_lists outboxes slot pdu is within counts after are more)
 
   pub taken_kept : (new : List Pdu) → new ≡ drop 1 now → AreOutboxes (slice_set outboxes i new)
-  taken_kept new e = outboxes-set outboxes i new (omega (arith, ap length (e ∙ ap (drop 1) box_is), length-drop 1 (box outboxes slot), few_there outboxes (place slot) kept.few)) kept
+  taken_kept new e =
+      let fewer : length new ≡ length (box outboxes slot) - 1 =
+      ap length (e ∙ ap (drop 1) box_is) ∙ length-drop 1 (box outboxes slot) in
+      outboxes-set outboxes i new (omega (arith, fewer, few_there outboxes (place slot) kept.few)) kept
 
-  pub taken_none : (new : List Pdu) → new ≡ drop 1 now → slice_get (box outboxes slot) 0 ≡ Some pdu → slot_counted plan slot pdu ≡ None → AreCounted plan (slice_set outboxes i new) counts
-  taken_none new e first none =
-      subst (λ (bs : List (List Pdu)). AreCounted plan bs counts) (sym (after_take new e)) (sent_uncounted plan outboxes counts slot pdu is_plan is (within_outboxes outboxes slot is kept) first none counted)
+  pub taken_counted : (new : List Pdu) (after : List ℕ) → new ≡ drop 1 now → slice_get (box outboxes slot) 0 ≡ Some pdu
+      → IsOneMore after (slot_counted lists slot pdu) counts → AreCounted lists (slice_set outboxes i new) after
+  taken_counted new after e first more =
+      let same : slice_set outboxes i new ≡ outboxes_after_send outboxes slot =
+      λ k. slice_set outboxes (at k) ((e ∙ ap (drop 1) box_is) k) in
+      subst (λ (bs : List (List Pdu)). AreCounted lists bs after) (sym same)
+      (counted_sent lists are_lists outboxes slot pdu is within counts after first are more)
 
-  pub taken_one : (new : List Pdu) (granted : Slot) (j : ℕ) → new ≡ drop 1 now → slice_get (box outboxes slot) 0 ≡ Some pdu → slot_counted plan slot pdu ≡ Some granted → IsSlot granted → j ≡ place granted → length counts ≡ 32
-      → AreCounted plan (slice_set outboxes i new) (slice_set counts j (slice_index_or counts j 0 - 1))
-  taken_one new granted j e first one is_granted there_j size =
-      subst (λ n. AreCounted plan (slice_set outboxes i new) (slice_set counts n (slice_index_or counts n 0 - 1))) (sym there_j)
-      (subst (λ (bs : List (List Pdu)). AreCounted plan bs (slice_set counts (place granted) (slice_index_or counts (place granted) 0 - 1))) (sym (after_take new e))
-      (sent_counted plan outboxes counts slot granted pdu is_plan is (within_outboxes outboxes slot is kept) first one is_granted size counted))
-
-empty_few : (xs : List Pdu) → xs ≡ [] → length xs ≤ 64
-empty_few xs e = omega (arith, ap length e)
+  pub taken_some : slice_get (box outboxes slot) 0 ≡ Some pdu → (k : ℕ) → k < 32
+      → is_this (slot_counted lists slot pdu) (slot_at k) ≡ true → 1 ≤ slice_index_or counts k 0
+  taken_some first = some_wait lists are_lists outboxes slot pdu is within counts first are
 
 -- the outboxes of a carrier's slots are emptied
-module _ (plan : Settings) (outboxes : List (List Pdu)) (counts : List ℕ) (i c : ℕ) (first second : List Pdu) (at : i ≡ c) (none : first ≡ []) (no_more : second ≡ []) (within : c < 16) (kept : AreOutboxes outboxes) where
+module _ (lists : ListSection) (outboxes : List (List Pdu)) (counts : List ℕ) (i c : ℕ) (first second : List Pdu) (at : i ≡ c)
+    (none : first ≡ []) (no_more : second ≡ []) (within : c < 16) (kept : AreOutboxes outboxes) where
   emptied_as : slice_set (slice_set outboxes (2 * i) first) (2 * i + 1) second ≡ outboxes_without_carrier outboxes c
   emptied_as = λ k. slice_set (slice_set outboxes (2 * at k) (none k)) (2 * at k + 1) (no_more k)
 
   pub cleared_kept : AreOutboxes (slice_set (slice_set outboxes (2 * i) first) (2 * i + 1) second)
-  cleared_kept = outboxes-set (slice_set outboxes (2 * i) first) (2 * i + 1) second (empty_few second no_more) (outboxes-set outboxes (2 * i) first (empty_few first none) kept)
+  cleared_kept = outboxes-set (slice_set outboxes (2 * i) first) (2 * i + 1) second (empty_few second no_more)
+      (outboxes-set outboxes (2 * i) first (empty_few first none) kept)
+    where
+      empty_few : (xs : List Pdu) → xs ≡ [] → length xs ≤ 64
+      empty_few xs e = omega (arith, ap length e)
 
-  pub cleared_control : c ≡ plan.control → AreCounted plan (slice_set (slice_set outboxes (2 * i) first) (2 * i + 1) second) (replicate 32 0)
-  cleared_control is = subst (λ (bs : List (List Pdu)). AreCounted plan bs (replicate 32 0)) (sym emptied_as) (emptied_control plan outboxes c is (omega (arith, kept.size)))
+  pub cleared_control : c ≡ lists.control
+      → AreCounted lists (slice_set (slice_set outboxes (2 * i) first) (2 * i + 1) second) (replicate 32 0)
+  cleared_control is = subst (λ (bs : List (List Pdu)). AreCounted lists bs (replicate 32 0)) (sym emptied_as)
+      (emptied_control lists outboxes c is (omega (arith, kept.size)))
 
-  pub cleared_other : c ≢ plan.control → AreCounted plan outboxes counts → AreCounted plan (slice_set (slice_set outboxes (2 * i) first) (2 * i + 1) second) counts
-  cleared_other apart counted = subst (λ (bs : List (List Pdu)). AreCounted plan bs counts) (sym emptied_as) (emptied_other plan outboxes counts c apart counted)
+  pub cleared_other : c ≢ lists.control → AreCounted lists outboxes counts
+      → AreCounted lists (slice_set (slice_set outboxes (2 * i) first) (2 * i + 1) second) counts
+  cleared_other apart are = subst (λ (bs : List (List Pdu)). AreCounted lists bs counts) (sym emptied_as)
+      (emptied_other lists outboxes counts c apart are)
 
--- nothing changes if no PDU waits
-pub sent_nothing : (outboxes : List (List Pdu)) (slot : Slot) → slice_get (box outboxes slot) 0 ≡ None → outboxes_after_send outboxes slot ≡ outboxes
-sent_nothing outboxes slot none = ap (λ (xs : List Pdu). slice_set outboxes (place slot) xs) (dropped (box outboxes slot) none) ∙ set-get_or outboxes (place slot) []
-  where
-    dropped : (xs : List Pdu) → slice_get xs 0 ≡ None → drop 1 xs ≡ xs
-    dropped [] h = refl
-    dropped (x ∷ xs) h = cc
-
--- no PDU waits at first
-nothing_waits : (n k : ℕ) → slice_index_or {A = List Pdu} (replicate n []) k [] ≡ []
-nothing_waits zero k = refl
-nothing_waits (suc n) zero = refl
-nothing_waits (suc n) (suc k) = nothing_waits n k
+-- ---- no PDU waits at first
 
 pub first_kept : (outboxes : List (List Pdu)) → outboxes ≡ replicate 32 [] → AreOutboxes outboxes
 first_kept outboxes e = record {
   size = ap (λ (bs : List (List Pdu)). length bs) e;
-  few = subst (All (λ (box : List Pdu). length box ≤ 64)) (sym e) (All-replicate (λ (box : List Pdu). length box ≤ 64) 32 [] (omega arith));
+  few = subst (All (λ (box : List Pdu). length box ≤ 64)) (sym e)
+      (All-replicate (λ (box : List Pdu). length box ≤ 64) 32 [] (omega arith));
 }
 
-pub first_counted : (plan : Settings) (outboxes : List (List Pdu)) → outboxes ≡ replicate 32 [] → AreCounted plan outboxes (replicate 32 0)
-first_counted plan outboxes e k below =
-    zeros 32 k ∙ sym (ap (λ (xs : List Pdu). grants_in plan xs (slot_at k)) (ap (λ (bs : List (List Pdu)). box bs (control_slot plan)) e ∙ nothing_waits 32 (place (control_slot plan))) ∙ none (row_with plan.carriers ((slot_at k).carrier)))
-  where
-    none : (found : Option CarrierRow) → option_map_or (λ (row : CarrierRow). count_by (names row.lpcn ((slot_at k).slot)) []) found 0 ≡ 0
-    none None = refl
-    none (Some row) = refl
+pub first_counted : (lists : ListSection) (outboxes : List (List Pdu)) → outboxes ≡ replicate 32 []
+    → AreCounted lists outboxes (replicate 32 0)
+first_counted lists outboxes e = uncounted lists outboxes
+    (ap (λ (bs : List (List Pdu)). box bs (control_slot lists)) e ∙ same_anywhere [] 32 (place (control_slot lists)))

@@ -6,19 +6,19 @@ use Rattle.std.specs.Option.{option_map_or}
 use Rattle.dmr_pdu.specs.declared.slots.Slot.{Slot}
 use Rattle.dmr_pdu.specs.declared.pdu.Pdu.{Pdu}
 use Rattle.dmr_pdu.specs.declared.pdu.Pdu.TheVariants.{PvGrant, TvGrant}
-use Rattle.dmr_plan.specs.declared.settings.Settings.{Settings}
+use Rattle.dmr_plan.specs.declared.sections.ListSection.{ListSection}
 use Rattle.dmr_plan.specs.declared.carriers.CarrierRow.{CarrierRow}
 use Rattle.dmr_plan.specs.Carriers.{has_number_in, row_with}
 use Rattle.dmr_pdu.specs.Slots.{slots_of_site}
 use Rattle.dmr_pool.specs.Slots.{Slots, IsSlot, place, slot_at, is_up, is_slot_held, box}
 
 -- slot 0 of the control carrier
-abbrev pub control_slot : Settings → Slot
-control_slot plan = record { carrier = plan.control; slot = 0 }
+abbrev pub control_slot : ListSection → Slot
+control_slot lists = record { carrier = lists.control; slot = 0 }
 
 -- a slot is the control slot
-abbrev pub is_control : Settings → Slot → Bool
-is_control plan slot = (slot.carrier == plan.control) && (slot.slot == 0)
+abbrev pub is_control : ListSection → Slot → Bool
+is_control lists slot = (slot.carrier == lists.control) && (slot.slot == 0)
 
 -- the list has no element
 abbrev pub is_empty : {X : Type 0} → List X → Bool
@@ -32,34 +32,36 @@ names lpcn number (TvGrant channel slot late target source) = (channel == lpcn) 
 names lpcn number _ = false
 
 -- a grant that names the slot, by its carrier's channel, waits for the control slot
-abbrev pub is_granted : Settings → List (List Pdu) → Slot → Bool
-is_granted plan outboxes slot =
+abbrev pub is_granted : ListSection → List (List Pdu) → Slot → Bool
+is_granted lists outboxes slot =
     option_map_or
-    (λ (row : CarrierRow). list_any (names row.lpcn slot.slot) (box outboxes (control_slot plan)))
-    (row_with plan.carriers slot.carrier) false
+    (λ (row : CarrierRow). list_any (names row.lpcn slot.slot) (box outboxes (control_slot lists)))
+    (row_with lists.carriers slot.carrier) false
 
 -- the carrier is in the plan and up, the slot is not the control slot, no call holds it, no PDU waits for it, and no
 -- grant of it waits
-abbrev pub is_free_by : Settings → List Bool → List (List Pdu) → (Slot → Bool) → Slot → Bool
-is_free_by plan up outboxes holds slot =
-    has_number_in plan.carriers slot.carrier && is_up up slot.carrier && not (is_control plan slot)
-    && not (holds slot) && is_empty (box outboxes slot) && not (is_granted plan outboxes slot)
+abbrev pub is_free_by : ListSection → List Bool → List (List Pdu) → (Slot → Bool) → Slot → Bool
+is_free_by lists up outboxes holds slot =
+    has_number_in lists.carriers slot.carrier && is_up up slot.carrier
+    && not (is_control lists slot) && not (holds slot) && is_empty (box outboxes slot)
+    && not (is_granted lists outboxes slot)
 
 -- a slot is free, given the pool's held slots
 abbrev pub is_free : Slots → Slot → Bool
-is_free slots slot = is_free_by slots.plan slots.up slots.outboxes (is_slot_held slots.held) slot
+is_free slots slot = is_free_by slots.lists slots.up slots.outboxes (is_slot_held slots.held) slot
 
 -- all slots of the site, by carrier, then by slot
 abbrev pub all_slots : List Slot
 all_slots = map slot_at (range_with_len 0 slots_of_site)
 
 -- the first of all slots that is free, for a test of held slots
-unfoldable pub lowest_free_by : Settings → List Bool → List (List Pdu) → (Slot → Bool) → Option Slot
-lowest_free_by plan up outboxes holds = find (is_free_by plan up outboxes holds) all_slots
+unfoldable pub lowest_free_by : ListSection → List Bool → List (List Pdu) → (Slot → Bool)
+    → Option Slot
+lowest_free_by lists up outboxes holds = find (is_free_by lists up outboxes holds) all_slots
 
 -- the first of all slots that is free, given the pool's held slots
 abbrev pub lowest_free : Slots → Option Slot
-lowest_free slots = lowest_free_by slots.plan slots.up slots.outboxes (is_slot_held slots.held)
+lowest_free slots = lowest_free_by slots.lists slots.up slots.outboxes (is_slot_held slots.held)
 
 -- no slot of the site is free
 abbrev pub HasNoFreeSlot : Slots → Type 0

@@ -8,8 +8,8 @@ use Rattle.std.proofs.lemmas.Bool.Decides.{Decides-and}
 use Rattle.dmr_pdu.specs.declared.pdu.Pdu.{Pdu}
 use Rattle.dmr_pdu.specs.contracts.pdu.PduPartialEq.TheImpl as pdu_eq
 use Rattle.dmr_pdu.proofs.Laws.{pdu_eq-Decides}
-use Rattle.dmr_plan.specs.Same.{are_same as are_same_plans}
-use Rattle.dmr_plan.specs.Same.{are_same-Decides as are_same_plans-Decides}
+use Rattle.dmr_plan.specs.contracts.sections.ListSectionPartialEq.TheImpl as lists_eq
+use Rattle.dmr_plan.specs.EqualityLemmas.{lists_eq-Decides}
 use Rattle.dmr_pool.specs.Slots.{Slots}
 
 -- the PDUs are the same, one by one
@@ -35,29 +35,29 @@ beq-Decides false true = (λ e. cc, λ e. cc)
 abbrev pub are_alike : Slots → Slots → Bool
 are_alike a b = pointwise beq a.up b.up && pointwise are_same_pdus a.outboxes b.outboxes
 
--- the plans are the same, and so are carriers up, held slots and waiting PDUs
+-- the same lists of a plan, carriers up, held slots and waiting PDUs
 abbrev pub are_same : Slots → Slots → Bool
 are_same a b =
-    are_same_plans a.plan b.plan && pointwise beq a.up b.up && pointwise beq a.held b.held
+    (lists_eq.ghosts).eq a.lists b.lists && pointwise beq a.up b.up && pointwise beq a.held b.held
     && pointwise are_same_pdus a.outboxes b.outboxes
 
 -- two values are the same if their fields are
-same_parts : (a b : Slots) → a.plan ≡ b.plan → a.up ≡ b.up → a.held ≡ b.held
+same_parts : (a b : Slots) → a.lists ≡ b.lists → a.up ≡ b.up → a.held ≡ b.held
     → a.outboxes ≡ b.outboxes → a ≡ b
-same_parts a b plan up held outboxes =
-    λ i. record { plan = plan i; up = up i; held = held i; outboxes = outboxes i }
+same_parts a b lists up held outboxes =
+    λ i. record { lists = lists i; up = up i; held = held i; outboxes = outboxes i }
 
 -- the test decides equality
 pub are_same-Decides : (a b : Slots) → Decides (are_same a b) (a ≡ b)
 are_same-Decides a b =
-    let plan = are_same_plans-Decides a.plan b.plan in
+    let lists = lists_eq-Decides a.lists b.lists in
     let up = pointwise_decides beq-Decides a.up b.up in
     let held = pointwise_decides beq-Decides a.held b.held in
     let outboxes = pointwise_decides are_same_pdus-Decides a.outboxes b.outboxes in
-    let d = Decides-and _ _ (Decides-and _ _ (Decides-and _ _ plan up) held) outboxes in (
+    let d = Decides-and _ _ (Decides-and _ _ (Decides-and _ _ lists up) held) outboxes in (
       λ h. let e = d.0 h in same_parts a b e.0.0.0 e.0.0.1 e.0.1 e.1,
       λ e. d.1 (
-        ((ap (λ (s : Slots). s.plan) e, ap (λ (s : Slots). s.up) e), ap (λ (s : Slots). s.held) e),
+        ((ap (λ (s : Slots). s.lists) e, ap (λ (s : Slots). s.up) e), ap (λ (s : Slots). s.held) e),
         ap (λ (s : Slots). s.outboxes) e,
       ),
     )

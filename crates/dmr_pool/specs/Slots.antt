@@ -4,12 +4,12 @@ use Rattle.std.specs.Prelude.{slice_set, slice_index_or}
 pub use Rattle.dmr_pdu.specs.Slots.{IsSlot, place, slot_at}
 use Rattle.dmr_pdu.specs.declared.slots.Slot.{Slot}
 use Rattle.dmr_pdu.specs.declared.pdu.Pdu.{Pdu}
-use Rattle.dmr_plan.specs.declared.settings.Settings.{Settings}
+use Rattle.dmr_plan.specs.declared.sections.ListSection.{ListSection}
 use Rattle.dmr_pdu.specs.Slots.{carriers_of_site, slots_of_site}
 
--- the plan, the carriers up, the held slots and the waiting PDUs
+-- the lists of the plan, the carriers up, the held slots and the waiting PDUs
 pub record Slots : Type 0 where
-  pub plan : Settings
+  pub lists : ListSection
   pub up : List Bool  -- for each carrier number, 0 to 15, whether the carrier is up
   pub held : List Bool  -- for each slot, at its place, whether a call holds it
   pub outboxes : List (List Pdu)  -- for each slot, at its place, the PDUs that wait for it, oldest first
@@ -45,9 +45,9 @@ abbrev pub outboxes_after_send : List (List Pdu) → Slot → List (List Pdu)
 outboxes_after_send boxes slot = slice_set boxes (place slot) (drop 1 (box boxes slot))
 
 -- no carrier up, no slot held, no PDU waiting
-abbrev pub nothing_on : Settings → Slots
-nothing_on plan = record {
-  plan = plan;
+abbrev pub nothing_on : ListSection → Slots
+nothing_on lists = record {
+  lists = lists;
   up = replicate carriers_of_site false;
   held = replicate slots_of_site false;
   outboxes = replicate slots_of_site [];

@@ -8,6 +8,7 @@ ghost use Rattle.dmr_pool.specs.Slots.{box, is_up, outboxes_without_carrier, hel
 ghost use Rattle.dmr_pool.specs.Slots.{outboxes_with_pdu, outboxes_after_send, place, nothing_on};
 ghost use Rattle.dmr_pool.specs.Free.{control_slot, is_control, is_free, lowest_free};
 ghost use Rattle.dmr_pool.specs.Free.{HasNoFreeSlot, IsLowestFree};
+ghost use Rattle.dmr_pool.specs.Grants.{slots_with};
 ghost use Rattle.dmr_pool.specs.Marks.{AreMarked};
 ghost use Rattle.dmr_pool.specs.Kept.{AreSlotsOfSite};
 ghost use Rattle.dmr_pool.specs.Same.{are_alike, are_same};
@@ -26,7 +27,8 @@ pub struct Full;
 
 /// The slots of a plan's site.
 ///
-/// Contracts see the plan, the carriers that are up, the slots that calls hold, and the PDUs that wait for each slot.
+/// Contracts see the lists of the plan, the carriers that are up, the slots that calls hold, and the PDUs that wait for
+/// each slot.
 /// Their invariant is `AreSlotsOfSite`; a proof gets it from [`Pool::use_invariant`].
 #[derive(Drop)]
 pub struct Pool {
@@ -38,23 +40,15 @@ pub struct Pool {
 
 impl Model for Pool {
     ghost use Rattle.dmr_pool.specs.Slots.{Slots};
+    ghost use Rattle.dmr_pool.specs.Grants.{slots_with};
     ghost use Rattle.dmr_pool.specs.Marks.{AreMarked};
 
     ghost Value = { Slots };
 
-    ghost view = { λ pool. record {
-      plan = pool.outboxes.plan;
-      up = pool.up;
-      held = pool.held;
-      outboxes = pool.outboxes.outboxes;
-    } };
+    ghost view = { λ pool. slots_with pool.outboxes pool.up pool.held };
 
-    ghost invariant = { λ pool. AreMarked pool.free.bits (record {
-      plan = pool.outboxes.plan;
-      up = pool.up;
-      held = pool.held;
-      outboxes = pool.outboxes.outboxes;
-    }) };
+    ghost invariant = { λ pool. AreMarked pool.free.bits
+        (slots_with pool.outboxes pool.up pool.held) };
 }
 
 /// Does nothing. A proof calls it to use the numbers of carriers and slots.
@@ -67,15 +61,10 @@ fn are_sized(up: &[bool; 16], held: &[bool; 32])
 
 /// Reports whether a slot is free for a call: the test that [`Pool::is_free`] describes.
 fn is_free(outboxes: &Outboxes, up: &[bool; 16], held: &[bool; 32], slot: &Slot) -> bool
-    ensures { result ≡ is_free (record {
-      plan = outboxes.now.plan;
-      up = up.now;
-      held = held.now;
-      outboxes = outboxes.now.outboxes;
-    }) slot.now }
+    ensures { result ≡ is_free (slots_with outboxes.now up.now held.now) slot.now }
 {
     let carrier = slot.carrier.get() as usize;
-    outboxes.plan().carrier_with(slot.carrier).is_some()
+    outboxes.lists().carrier_with(slot.carrier).is_some()
         && up[carrier]
         && !outboxes.is_control(slot)
         && !held[slot.index()]
@@ -85,12 +74,7 @@ fn is_free(outboxes: &Outboxes, up: &[bool; 16], held: &[bool; 32], slot: &Slot)
 
 /// The set of the free slots.
 fn all_free(outboxes: &Outboxes, up: &[bool; 16], held: &[bool; 32]) -> Marks
-    ensures { AreMarked result.bits (record {
-      plan = outboxes.now.plan;
-      up = up.now;
-      held = held.now;
-      outboxes = outboxes.now.outboxes;
-    }) }
+    ensures { AreMarked result.bits (slots_with outboxes.now up.now held.now) }
 {
     let mut free = Marks::none();
     for place in 0..32usize {
@@ -105,7 +89,7 @@ impl Pool {
     ///
     /// Returns `OutOfMemory` if the allocation fails.
     pub fn new(alloc: Global, plan: &Plan) -> Result<Pool, OutOfMemory>
-        ensures { IfOk result (λ pool. pool ≡ nothing_on plan.now) }
+        ensures { IfOk result (λ pool. pool ≡ nothing_on plan.now.lists) }
     {
         Ok(Pool {
             up: [false; 16],
@@ -144,7 +128,7 @@ impl Pool {
 
     /// Marks a carrier of the plan as up. Its slots are released, and its outboxes emptied.
     pub fn up(&mut self, carrier: CarrierNo)
-        requires { IsTrue (has_number_in self.old.plan.carriers carrier) }
+        requires { IsTrue (has_number_in self.old.lists.carriers carrier) }
         ensures { self.new ≡ record self.old {
           up = slice_set self.old.up carrier true;
           held = held_without_carrier self.old.held carrier;
@@ -213,14 +197,14 @@ impl Pool {
 
     /// Slot 0 of the control carrier.
     pub fn control_slot(&self) -> Slot
-        ensures { result ≡ control_slot self.now.plan }
+        ensures { result ≡ control_slot self.now.lists }
     {
         self.outboxes.control_slot()
     }
 
     /// Reports whether a slot is the control slot.
     pub fn is_control(&self, slot: Slot) -> bool
-        ensures { result ≡ is_control self.now.plan slot }
+        ensures { result ≡ is_control self.now.lists slot }
     {
         self.outboxes.is_control(&slot)
     }
@@ -316,17 +300,17 @@ impl Pool {
         self.outboxes.waiting(&slot)
     }
 
-    /// Reports whether two pools have the same plan, carriers up, held slots and waiting PDUs.
+    /// Reports whether two pools have the same lists, carriers up, held slots and waiting PDUs.
     fn equals(&self, other: &Pool) -> bool
         ensures { result ≡ are_same self.now other.now }
     {
-        self.outboxes.plan() == other.outboxes.plan()
+        self.outboxes.lists() == other.outboxes.lists()
             && self.up == other.up
             && self.held == other.held
             && self.outboxes.has_same_pdus(&other.outboxes)
     }
 
-    /// Reports whether the same carriers are up and the same PDUs wait for each slot. Plans and held slots are
+    /// Reports whether the same carriers are up and the same PDUs wait for each slot. Lists and held slots are
     /// not compared.
     pub fn has_same_carriers_and_pdus(&self, other: &Pool) -> bool
         ensures { result ≡ are_alike self.now other.now }
@@ -343,8 +327,7 @@ impl Pool {
     }
 }
 
-/// Two pools are equal if they have the same plan, the same carriers up, the same slots held, and the same PDUs waiting
-/// for each slot in the same order.
+/// Two pools are equal if they have the same lists of a plan, carriers up, held slots, and waiting PDUs in the same order.
 impl PartialEq for Pool {
     ghost use Rattle.std.specs.Cmp.{partial_equiv_from_equiv};
     ghost use Rattle.dmr_pool.specs.Same.{are_same, are_same-equivalence};

@@ -1,8 +1,8 @@
 -- The number of notes of a kind in a minute.
 use Rattle.std.specs.Prelude.{ℕ, ◌+◌, ◌-◌, ◌^◌, ◌==◌, min, nat_lt, Bool, if◌then◌else◌}
 use Rattle.dmr_port.specs.declared.note_limit.NoteLimit.{NoteLimit}
-use Rattle.dmr_port.specs.declared.note_limit.Verdict.{Verdict}
-use Rattle.dmr_port.specs.declared.note_limit.Verdict.TheVariants.{Write, WriteAfter, Drop}
+use Rattle.dmr_port.specs.declared.note_limit.NoteVerdict.{NoteVerdict}
+use Rattle.dmr_port.specs.declared.note_limit.NoteVerdict.TheVariants.{Write, WriteAfter, Drop}
 
 -- the limit of a kind of which there was no note
 abbrev pub fresh_limit : NoteLimit
@@ -18,7 +18,7 @@ has_note_left limit = nat_lt limit.written 20
 
 -- what is done with a note: 20 notes a minute are written, and the first of the next minute after the number of those
 -- that were not
-abbrev pub verdict_on_note : ℕ → NoteLimit → Verdict
+abbrev pub verdict_on_note : ℕ → NoteLimit → NoteVerdict
 verdict_on_note now limit =
     if is_in_minute now limit then (if has_note_left limit then Write else Drop)
     else if limit.dropped == 0 then Write else WriteAfter limit.dropped

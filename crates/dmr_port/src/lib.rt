@@ -29,7 +29,7 @@ mod whose;
 mod witness;
 
 pub use cause::CloseCause;
-pub use note_limit::{NoteLimit, Verdict};
+pub use note_limit::{NoteLimit, NoteVerdict};
 pub use notes::{Note, NoteKind, PortNotes};
 pub use port_laws::empty_records_agree;
 pub use serving_port::ServingPort;

@@ -11,7 +11,7 @@ const NOTES_A_MINUTE: u32 = 20;
 
 /// What is done with a note.
 #[derive(Clone, Copy, Debug, PartialEq, Eq)]
-pub enum Verdict {
+pub enum NoteVerdict {
     /// It is written.
     Write,
     /// It is written, after a note of this number of notes that were not.
@@ -41,7 +41,7 @@ impl NoteLimit {
     }
 
     /// Returns what is done with a note at this time, and counts it.
-    pub fn count(&mut self, now: u64) -> Verdict
+    pub fn count(&mut self, now: u64) -> NoteVerdict
         ensures verdict { result ≡ verdict_on_note now self.old }
         ensures counted { self.new ≡ limit_after now self.old }
     {
@@ -53,16 +53,16 @@ impl NoteLimit {
                 dropped: 0,
             };
             return if dropped == 0 {
-                Verdict::Write
+                NoteVerdict::Write
             } else {
-                Verdict::WriteAfter(dropped)
+                NoteVerdict::WriteAfter(dropped)
             };
         }
         if self.written < NOTES_A_MINUTE {
             self.written += 1;
-            return Verdict::Write;
+            return NoteVerdict::Write;
         }
         self.dropped = self.dropped.saturating_add(1);
-        Verdict::Drop
+        NoteVerdict::Drop
     }
 }

@@ -1,6 +1,6 @@
 //! A port's notes, with the limit of each kind.
 
-use crate::note_limit::{NoteLimit, Verdict};
+use crate::note_limit::{NoteLimit, NoteVerdict};
 use crate::notes::{Note, NoteKind, PortNotes};
 
 /// Writes the notes of a port, at most 20 a minute of each kind. The first note of a kind after that minute follows the
@@ -41,7 +41,7 @@ impl<N: PortNotes> PortLog<N> {
     }
 
     /// Returns what is done with a note of a kind, and counts it.
-    fn count(&mut self, kind: NoteKind, now: u64) -> Verdict {
+    fn count(&mut self, kind: NoteKind, now: u64) -> NoteVerdict {
         match kind {
             NoteKind::Connected => self.connected.count(now),
             NoteKind::Ended => self.ended.count(now),
@@ -57,12 +57,12 @@ impl<N: PortNotes> PortLog<N> {
         self.notes.count(note);
         let kind = note.kind();
         match self.count(kind, now) {
-            Verdict::Write => self.notes.write(note),
-            Verdict::WriteAfter(count) => {
+            NoteVerdict::Write => self.notes.write(note),
+            NoteVerdict::WriteAfter(count) => {
                 self.notes.write(&Note::More { kind, count });
                 self.notes.write(note);
             }
-            Verdict::Drop => {}
+            NoteVerdict::Drop => {}
         }
     }
 }

@@ -16,7 +16,8 @@ use Rattle.dmr_link.specs.declared.connection.Connection.{Connection}
 use Rattle.dmr_link.specs.declared.connection.Connection.TheVariants.{Closed, Running}
 use Rattle.dmr_link.specs.Input.{Piece}
 use Rattle.dmr_link.specs.Inputs.{piece_produces, piece_leaves}
-use Rattle.dmr_link.specs.Meaning.{event_of, is_accepted, is_last, is_repeat, newest_after, is_stream_fault, left_by_frames, left_by_octets, list_of_notice, meaning_of_frames, meaning_of_octets, no_octets, refusal_of_first, while_up}
+use Rattle.dmr_link.specs.Meaning.{event_of, is_accepted, is_last, is_repeat, newest_after, is_stream_fault, left_by_frames, left_by_octets, meaning_of_frames, meaning_of_octets, no_octets, refusal_of_first, while_up}
+use Rattle.dmr_link.specs.Notices.{list_of_notice}
 use Rattle.dmr_link.specs.Notices.{Notice, Accepted, Happened}
 use Rattle.dmr_link.specs.Records.{Record, left_by_records, meaning_of_records, records_after}
 use Rattle.dmr_link.specs.Steps.{connection_after_octet, connection_after_octets, new_connection, notices_of_octets}

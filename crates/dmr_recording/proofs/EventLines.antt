@@ -1,93 +1,40 @@
 -- The inputs of an event have lines.
-use Rattle.std.proofs.Common.{◌≡◌, ℕ, zero, suc, ◌+◌, ◌/◌, ◌%◌, ◌^◌, ◌<◌, ◌≤◌, Bool, true, false, if◌then◌else◌, List, [], ◌∷◌, ◌++◌, length, Option, Some, None, codes, decimal, refl, ap, ◌∙◌, arith, ltb, ltb-true, le-ltb, length-append, take, ◌-◌}
+use Rattle.std.proofs.Common.{◌≡◌, ℕ, zero, suc, ◌+◌, ◌/◌, ◌%◌, ◌<◌, ◌≤◌, Bool, true, false, if◌then◌else◌, List, [], ◌∷◌, ◌++◌, length, Option, None, refl, ap, ◌∙◌, arith, ltb-true, le-ltb, take, ◌-◌}
 use Rattle.std.specs.Prelude.{◌==◌, nat_lt}
-use Rattle.std.proofs.lemmas.Fmt.{length-decimal-le}
 use Rattle.hex.specs.Hex.{IsBytes}
 use Rattle.dmr_bits.specs.Words.{word_octets}
 use Rattle.dmr_bits.proofs.Laws.{word_octets-octets}
 use Rattle.dmr_burst.specs.Functions.{burst_of}
 use Rattle.dmr_plan.specs.declared.settings.Settings.{Settings}
 use Rattle.dmr_core.specs.declared.command.Command.{Command}
-use Rattle.dmr_core.specs.declared.command.Command.TheVariants as command
 use Rattle.dmr_core.specs.declared.event.Event.{Event}
 use Rattle.dmr_core.specs.declared.event.Event.TheVariants as event
+use Rattle.dmr_core.specs.CommandWords.{IsSaid, command_text}
 use Rattle.dmr_frames.specs.declared.frame.FrameIn.TheVariants as frame
-use Rattle.dmr_console.specs.Commands.{command_of}
 use Rattle.dmr_console.specs.Lines.{line_step_of, without_cr}
 use Rattle.dmr_console.specs.declared.line_cutter.LineStep.TheVariants.{Line, TooLong}
 use Rattle.dmr_link.specs.Console.{line_means, notice_of_command}
 use Rattle.dmr_link.specs.Input.{Ticking}
 use Rattle.dmr_link.specs.Notices.{Happened}
 use Rattle.dmr_replay.specs.Script.{RepeatedInput}
-use Rattle.dmr_recording.specs.Commands.{command_text, IsInRange}
 use Rattle.dmr_recording.specs.Events.{lpcn_of, frame_from, noise_word, inputs_of_event, inputs_after_ticks, ticks_together}
 use Rattle.dmr_recording.specs.Recordable.{IsRecordable, AreRecordable, up_after}
-use Rattle.dmr_recording.proofs.FreeWords.{IsFree, free_by, free-append, free-at, decimal_free}
+use Rattle.dmr_recording.proofs.CommandsAreRead.{command_free, command_read, command_short}
+use Rattle.dmr_recording.proofs.FreeWords.{IsFree, free-at}
 use Rattle.dmr_recording.proofs.LinesAreRead.{AreLines, lines-append, open_line, cut_line, tick_line, say_line, bytes_line}
 
 -- ---- commands
 
-le-ltb_false : (a b : ℕ) → b ≤ a → ltb a b ≡ false
-le-ltb_false a b h = le-ltb a b h
-
-named_free : (c : ℕ) → c < 48 → (name : List ℕ) → IsFree c name → (n : ℕ) → n < 2 ^ 64 → IsFree c (name ++ decimal n)
-named_free c small name free n fits = free-append c name (decimal n) free (decimal_free c small n fits)
-
--- a command's words have neither an LF nor a CR
-pub command_without_lf : (command : Command) → IsInRange command → IsFree 10 (command_text command)
-command_without_lf command.Status is = free_by 10 (codes "status") refl
-command_without_lf (command.Radios n) is = named_free 10 (omega arith) (codes "radios ") (free_by 10 (codes "radios ") refl) n (omega (arith, is))
-command_without_lf (command.Calls n) is = named_free 10 (omega arith) (codes "calls ") (free_by 10 (codes "calls ") refl) n (omega (arith, is))
-command_without_lf (command.Lines n) is = named_free 10 (omega arith) (codes "lines ") (free_by 10 (codes "lines ") refl) n (omega (arith, is.1))
-command_without_lf command.Slots is = free_by 10 (codes "slots") refl
-command_without_lf (command.Drop n) is = named_free 10 (omega arith) (codes "drop ") (free_by 10 (codes "drop ") refl) n (omega (arith, is))
-command_without_lf (command.End c s) is =
-    free-append 10 (codes "end " ++ decimal c ++ codes " ") (decimal s)
-    (free-append 10 (codes "end " ++ decimal c) (codes " ") (named_free 10 (omega arith) (codes "end ") (free_by 10 (codes "end ") refl) c (omega (arith, is.0))) (free_by 10 (codes " ") refl))
-    (decimal_free 10 (omega arith) s (omega (arith, is.1)))
-command_without_lf (command.Move n) is = named_free 10 (omega arith) (codes "move ") (free_by 10 (codes "move ") refl) n (omega (arith, is.1))
-command_without_lf command.Stay is = free_by 10 (codes "stay") refl
-
-pub command_without_cr : (command : Command) → IsInRange command → IsFree 13 (command_text command)
-command_without_cr command.Status is = free_by 13 (codes "status") refl
-command_without_cr (command.Radios n) is = named_free 13 (omega arith) (codes "radios ") (free_by 13 (codes "radios ") refl) n (omega (arith, is))
-command_without_cr (command.Calls n) is = named_free 13 (omega arith) (codes "calls ") (free_by 13 (codes "calls ") refl) n (omega (arith, is))
-command_without_cr (command.Lines n) is = named_free 13 (omega arith) (codes "lines ") (free_by 13 (codes "lines ") refl) n (omega (arith, is.1))
-command_without_cr command.Slots is = free_by 13 (codes "slots") refl
-command_without_cr (command.Drop n) is = named_free 13 (omega arith) (codes "drop ") (free_by 13 (codes "drop ") refl) n (omega (arith, is))
-command_without_cr (command.End c s) is =
-    free-append 13 (codes "end " ++ decimal c ++ codes " ") (decimal s)
-    (free-append 13 (codes "end " ++ decimal c) (codes " ") (named_free 13 (omega arith) (codes "end ") (free_by 13 (codes "end ") refl) c (omega (arith, is.0))) (free_by 13 (codes " ") refl))
-    (decimal_free 13 (omega arith) s (omega (arith, is.1)))
-command_without_cr (command.Move n) is = named_free 13 (omega arith) (codes "move ") (free_by 13 (codes "move ") refl) n (omega (arith, is.1))
-command_without_cr command.Stay is = free_by 13 (codes "stay") refl
-
-named_short : (name : List ℕ) (n : ℕ) → length name ≤ 8 → n < 2 ^ 64 → length (name ++ decimal n) ≤ 80
-named_short name n few fits = omega (arith, length-append name (decimal n), length-decimal-le 20 n (omega arith) (omega arith) fits, few)
-
--- a command's words are not too long for a line
-pub command_short : (command : Command) → IsInRange command → length (command_text command) ≤ 80
-command_short command.Status is = omega arith
-command_short (command.Radios n) is = named_short (codes "radios ") n (omega arith) (omega (arith, is))
-command_short (command.Calls n) is = named_short (codes "calls ") n (omega arith) (omega (arith, is))
-command_short (command.Lines n) is = named_short (codes "lines ") n (omega arith) (omega (arith, is.1))
-command_short command.Slots is = omega arith
-command_short (command.Drop n) is = named_short (codes "drop ") n (omega arith) (omega (arith, is))
-command_short (command.End c s) is =
-    omega (arith, length-append (codes "end " ++ decimal c ++ codes " ") (decimal s), length-append (codes "end " ++ decimal c) (codes " "), length-append (codes "end ") (decimal c), length-decimal-le 20 c (omega arith) (omega (arith, is.0)) (omega (arith, is.0)), length-decimal-le 20 s (omega arith) (omega (arith, is.1)) (omega (arith, is.1)))
-command_short (command.Move n) is = named_short (codes "move ") n (omega arith) (omega (arith, is.1))
-command_short command.Stay is = omega arith
-
 -- the line of a command is its words
 line_is : (t : List ℕ) → IsFree 13 t → length t ≤ 80 → line_step_of t ≡ Line (record { items = t })
 line_is t free few =
-    ap (λ (b : Bool). if b then TooLong else Line (record { items = without_cr t })) (le-ltb_false 80 (length t) few)
+    ap (λ (b : Bool). if b then TooLong else Line (record { items = without_cr t })) (le-ltb 80 (length t) few)
     ∙ ap (λ (b : Bool). Line (record { items = if b then take (length t - 1) t else t })) (free-at 13 t (length t - 1) (omega arith) free)
 
-pub command_means : (command : Command) → IsInRange command → command_of (command_text command) ≡ Some command → line_means (line_step_of (command_text command)) ≡ Happened (event.Say command) ∷ []
-command_means command is means =
-    ap line_means (line_is (command_text command) (command_without_cr command is) (command_short command is))
-    ∙ ap (λ (o : Option Command). notice_of_command o ∷ []) means
+pub command_means : (command : Command) → IsSaid command → line_means (line_step_of (command_text command)) ≡ Happened (event.Say command) ∷ []
+command_means command is =
+    ap line_means (line_is (command_text command) (command_free command is 13 (omega arith)) (command_short command is))
+    ∙ ap (λ (o : Option Command). notice_of_command o ∷ []) (command_read command is)
 
 -- ---- frames
 
@@ -131,7 +78,7 @@ event_lines plan up (event.Active slot) is =
     (bytes_line slot.carrier 4 (1 ∷ slot.slot ∷ []) is.0.0 (small-cons 4 (1 ∷ slot.slot ∷ []) (omega arith) (small-cons 1 (slot.slot ∷ []) (omega arith) (small-cons slot.slot [] (omega (arith, is.1)) small-none))), tt)
 event_lines plan up (event.Poll c) is = (bytes_line c 3 (0 ∷ []) is.0 (small-cons 3 (0 ∷ []) (omega arith) (small-cons 0 [] (omega arith) small-none)), tt)
 event_lines plan up event.Tick is = (tick_line 1 (omega arith) (omega arith), tt)
-event_lines plan up (event.Say command) is = (say_line (command_text command) (command_without_lf command is.0), tt)
+event_lines plan up (event.Say command) is = (say_line (command_text command) (command_free command is 10 (omega arith)), tt)
 
 -- ---- ticks, and events in a row
 

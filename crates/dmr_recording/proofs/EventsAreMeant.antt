@@ -44,7 +44,7 @@ identity c (Some row) who make number channel e =
     (sym (ap (λ (w : CarrierIdentity). w.carrier) same) ∙ number row, sym (ap (λ (w : CarrierIdentity). w.lpcn) same) ∙ channel row)
 
 pub who_is : (plan : Settings) (c : ℕ) (who : CarrierIdentity) → who_of plan c ≡ Some who → (who.carrier ≡ c) × (who.lpcn ≡ lpcn_of plan c)
-who_is plan c who is = identity c (row_with plan.carriers c) who (λ (row : CarrierRow). record { carrier = c; lpcn = row.lpcn; greatest = greatest_of plan }) (λ row. refl) (λ row. refl) is
+who_is plan c who is = identity c (row_with plan.lists.carriers c) who (λ (row : CarrierRow). record { carrier = c; lpcn = row.lpcn; greatest = greatest_of plan }) (λ row. refl) (λ row. refl) is
 
 pub some_who : (o : Option CarrierIdentity) → is_some o ≡ true → (who : CarrierIdentity) × (o ≡ Some who)
 some_who None e = absurd (cc)

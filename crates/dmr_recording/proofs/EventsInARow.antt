@@ -11,6 +11,7 @@ use Rattle.dmr_pdu.specs.declared.pdu.Pdu.{Pdu}
 use Rattle.dmr_plan.specs.declared.settings.Settings.{Settings}
 use Rattle.dmr_core.specs.declared.event.Event.{Event}
 use Rattle.dmr_core.specs.declared.event.Event.TheVariants as event
+use Rattle.dmr_core.specs.CommandWords.{command_text}
 use Rattle.dmr_frames.specs.declared.frame.FrameIn.TheVariants as frame
 use Rattle.dmr_link.specs.Identities.{who_of}
 use Rattle.dmr_link.specs.Input.{Input, Ticking}
@@ -19,15 +20,14 @@ use Rattle.dmr_link.specs.Notices.{Notice, Happened}
 use Rattle.dmr_link.specs.declared.connection.Connection.TheVariants.{Closed}
 use Rattle.dmr_link.specs.Records.{no_past}
 use Rattle.dmr_replay.specs.Script.{RepeatedInput, inputs_of_script, script_of}
-use Rattle.dmr_recording.specs.Commands.{command_text}
 use Rattle.dmr_recording.specs.Events.{inputs_after_ticks, inputs_of_event, inputs_of_events, noise_word, notice_of_event, ticks_together}
 use Rattle.dmr_recording.specs.Recordable.{AreRecordable, IsRecordable, up_after, up_after_all}
 use Rattle.dmr_recording.specs.Lines.{line_of, text_of}
 use Rattle.dmr_recording.specs.Records.{IsConnectionOf, Matches, Records}
 use Rattle.dmr_recording.proofs.ConnectionsAreMeant.{ConnectionLaws, active_quiet, poll_quiet, rx_quiet}
-use Rattle.dmr_recording.proofs.EventLines.{all_lines, command_means, command_without_lf}
+use Rattle.dmr_recording.proofs.EventLines.{all_lines, command_means}
 use Rattle.dmr_recording.proofs.EventsAreMeant.{AreMeant, LineLaws, frame_meant, lost_meant, say_meant, some_who, then_meant, ticks_meant, up_meant, who_is}
-use Rattle.dmr_recording.proofs.CommandsAreRead.{command_read}
+use Rattle.dmr_recording.proofs.CommandsAreRead.{command_free}
 use Rattle.dmr_recording.proofs.LinesAreRead.{text_read}
 use Rattle.dmr_recording.proofs.NoiseMeansNothing.{CodeLaws, noise_means_nothing}
 
@@ -95,7 +95,7 @@ module _ (laws : ConnectionLaws) (lines : LineLaws) (code : CodeLaws) (plan : Se
       let who = some_who (who_of plan c) is.2 in
       frame_meant laws plan up c who.0 who.1 is.0 is.3 frame.Poll poll_quiet (omega (arith, (who_is plan c who.0 who.1).1, is.1))
   event_meant up event.Tick len is = ticks_meant plan up 1
-  event_meant up (event.Say command) len is = say_meant lines plan up (command_text command) (command_without_lf command is.0) (notice_of_event (event.Say command) ∷ []) (command_means command is.0 (command_read command is.0 is.1))
+  event_meant up (event.Say command) len is = say_meant lines plan up (command_text command) (command_free command is 10 (omega arith)) (notice_of_event (event.Say command) ∷ []) (command_means command is)
 
   up_length : (up : List Bool) (e : Event) → length up ≡ 16 → length (up_after up e) ≡ 16
   up_length up (event.Up c) len = length-set up c true ∙ len

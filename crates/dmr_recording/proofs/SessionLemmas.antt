@@ -55,7 +55,7 @@ at_place P (suc n) (suc c) all small = at_place (λ c. P (suc c)) n c all.1 (ome
 -- the control carrier is up, these radios are registered, and nothing else has happened than Polls
 abbrev ready : Settings → List ℕ → List ℕ → Facts
 ready plan radios noise = record {
-  up = slice_set (replicate 16 false) plan.control true;
+  up = slice_set (replicate 16 false) plan.lists.control true;
   registered = radios;
   asks = [];
   lines = [];
@@ -69,21 +69,21 @@ ready plan radios noise = record {
 
 -- the noise numbers after the control carrier came up, and after its Poll
 abbrev noise_at_up : Settings → List ℕ
-noise_at_up plan = noise_by_event plan [] (Up plan.control)
+noise_at_up plan = noise_by_event plan [] (Up plan.lists.control)
 
 abbrev polled : Settings → List ℕ → List ℕ
-polled plan noise = noise_by_event plan noise (Poll plan.control)
+polled plan noise = noise_by_event plan noise (Poll plan.lists.control)
 
 -- a plan with another control carrier
 abbrev with_control : Settings → ℕ → Settings
-with_control plan c = record plan { control = c }
+with_control plan c = record plan { lists = record plan.lists { control = c } }
 
 -- the site after the control carrier came up, if the plan has it
 abbrev up_if : Settings → Bool → Facts
-up_if plan has = record (ready plan [] (noise_at_up plan)) { up = if has then slice_set (replicate 16 false) plan.control true else replicate 16 false }
+up_if plan has = record (ready plan [] (noise_at_up plan)) { up = if has then slice_set (replicate 16 false) plan.lists.control true else replicate 16 false }
 
 abbrev Begins : Settings → ℕ → Type 0
-Begins plan c = next (with_control plan c) no_facts (Up c) ≡ up_if (with_control plan c) (has_number_in plan.carriers c)
+Begins plan c = next (with_control plan c) no_facts (Up c) ≡ up_if (with_control plan c) (has_number_in plan.lists.carriers c)
 
 begins : (plan : Settings) (c : ℕ) → c < 16 → Begins plan c
 begins plan c small = at_place (Begins plan) 16 c (refl, (refl, (refl, (refl, (refl, (refl, (refl, (refl, (refl, (refl, (refl, (refl, (refl, (refl, (refl, (refl, tt)))))))))))))))) small
@@ -98,22 +98,22 @@ ends plan radios noise c small = at_place (Ends plan radios noise) 16 c (refl, (
 
 -- its request
 abbrev request_of : Settings → ℕ → Event
-request_of plan radio = Heard (record { carrier = plan.control; slot = 0 }) (registration_of plan radio)
+request_of plan radio = Heard (record { carrier = plan.lists.control; slot = 0 }) (registration_of plan radio)
 
 -- the facts after a request that was answered by these acts, and a Poll
 abbrev answered : Settings → List ℕ → List ℕ → ℕ → List Act → Facts
 answered plan radios noise radio acts =
     let now = ready plan radios noise in
-    next plan (facts_after plan now (unattributed_entry (request_of plan radio) (record { list = acts; said = reply_to plan now (request_of plan radio) }) ∷ [])) (Poll plan.control)
+    next plan (facts_after plan now (unattributed_entry (request_of plan radio) (record { list = acts; said = reply_to plan now (request_of plan radio) }) ∷ [])) (Poll plan.lists.control)
 
 -- the acts that answer a registration request, by what is known of the radio
 abbrev acts_by : Settings → ℕ → List Act → Bool → Bool → Bool → Bool → List Act
 acts_by plan radio others leaves listed here full =
     if leaves then others else
-    if not listed then ack plan radio plan.regi reg_denied else
-    if here then ack plan radio plan.regi reg_accepted else
-    if full then ack plan radio plan.regi reg_refused else
-    (Joined radio ∷ ack plan radio plan.regi reg_accepted)
+    if not listed then ack plan radio plan.system.regi reg_denied else
+    if here then ack plan radio plan.system.regi reg_accepted else
+    if full then ack plan radio plan.system.regi reg_refused else
+    (Joined radio ∷ ack plan radio plan.system.regi reg_accepted)
 
 -- what is known of the radio
 abbrev is_registered_in : List ℕ → ℕ → Bool
@@ -129,17 +129,17 @@ radios_by radios radio listed here full = if listed then (if here then radios el
 abbrev Answers : Settings → List ℕ → List ℕ → ℕ → ℕ → Type 0
 Answers plan radios noise radio c =
     let it = with_control plan c in
-    (answered it radios noise radio (ack it radio plan.regi reg_denied) ≡ ready it radios (polled it noise))
-    × (answered it radios noise radio (ack it radio plan.regi reg_accepted) ≡ ready it radios (polled it noise))
-    × (answered it radios noise radio (ack it radio plan.regi reg_refused) ≡ ready it radios (polled it noise))
-    × (answered it radios noise radio (Joined radio ∷ ack it radio plan.regi reg_accepted) ≡ ready it (radios ++ radio ∷ []) (polled it noise))
+    (answered it radios noise radio (ack it radio plan.system.regi reg_denied) ≡ ready it radios (polled it noise))
+    × (answered it radios noise radio (ack it radio plan.system.regi reg_accepted) ≡ ready it radios (polled it noise))
+    × (answered it radios noise radio (ack it radio plan.system.regi reg_refused) ≡ ready it radios (polled it noise))
+    × (answered it radios noise radio (Joined radio ∷ ack it radio plan.system.regi reg_accepted) ≡ ready it (radios ++ radio ∷ []) (polled it noise))
 
 answers : (plan : Settings) (radios noise : List ℕ) (radio c : ℕ) → c < 16 → Answers plan radios noise radio c
 unfolding acts_for_slot
 answers plan radios noise radio c small = at_place (Answers plan radios noise radio) 16 c
     ((refl, refl, refl, refl), ((refl, refl, refl, refl), ((refl, refl, refl, refl), ((refl, refl, refl, refl), ((refl, refl, refl, refl), ((refl, refl, refl, refl), ((refl, refl, refl, refl), ((refl, refl, refl, refl), ((refl, refl, refl, refl), ((refl, refl, refl, refl), ((refl, refl, refl, refl), ((refl, refl, refl, refl), ((refl, refl, refl, refl), ((refl, refl, refl, refl), ((refl, refl, refl, refl), ((refl, refl, refl, refl), tt)))))))))))))))) small
 
-by_answer : (plan : Settings) (radios noise : List ℕ) (radio : ℕ) (others : List Act) (listed here full : Bool) → Answers plan radios noise radio plan.control → answered plan radios noise radio (acts_by plan radio others false listed here full) ≡ ready plan (radios_by radios radio listed here full) (polled plan noise)
+by_answer : (plan : Settings) (radios noise : List ℕ) (radio : ℕ) (others : List Act) (listed here full : Bool) → Answers plan radios noise radio plan.lists.control → answered plan radios noise radio (acts_by plan radio others false listed here full) ≡ ready plan (radios_by radios radio listed here full) (polled plan noise)
 by_answer plan radios noise radio others false here full each = each.0
 by_answer plan radios noise radio others true true full each = each.1
 by_answer plan radios noise radio others true false true each = each.2
@@ -150,7 +150,7 @@ abbrev Acts_at : Settings → List ℕ → List ℕ → ℕ → ℕ → Type 0
 Acts_at plan radios noise radio c =
     let it = with_control plan c in
     let now = ready it radios noise in
-    acts_of it now (request_of it radio) ≡ acts_by it radio (acts_for_leaving it now (record { options = options_to_stay it; source = radio; target = it.regi })) (is_leaving it (options_to_stay it)) (lists_radio it radio) (is_registered_in radios radio) (is_full radios)
+    acts_of it now (request_of it radio) ≡ acts_by it radio (acts_for_leaving it now (record { options = options_to_stay it; source = radio; target = it.system.regi })) (is_leaving it (options_to_stay it)) (lists_radio it radio) (is_registered_in radios radio) (is_full radios)
 
 acts_at : (plan : Settings) (radios noise : List ℕ) (radio c : ℕ) → c < 16 → Acts_at plan radios noise radio c
 unfolding acts_for_pdu acts_for_request acts_for_registration
@@ -158,7 +158,9 @@ acts_at plan radios noise radio c small = at_place (Acts_at plan radios noise ra
 
 -- the request is not one to leave
 abbrev Stays : Settings → Option ℕ → Type 0
-Stays plan bit = let it = record plan { leave_bit = bit } in is_leaving it (options_to_stay it) ≡ false
+Stays plan bit =
+    let it = record plan { system = record plan.system { leave_bit = bit } } in
+    is_leaving it (options_to_stay it) ≡ false
 
 stays : (plan : Settings) (bit : Option ℕ) → IfSome bit (IsNumberOf key.LeaveBit) → Stays plan bit
 unfolding is_leaving
@@ -166,15 +168,15 @@ stays plan None within = refl
 stays plan (Some k) within = at_place (λ k. Stays plan (Some k)) 7 k (refl, (refl, (refl, (refl, (refl, (refl, (refl, tt))))))) (omega (arith, within.1))
 
 -- a radio registers, if the plan lists it and there is a place
-registers_one : (plan : Settings) (radios noise : List ℕ) (radio : ℕ) → plan.control < 16 → IfSome plan.leave_bit (IsNumberOf key.LeaveBit) → next plan (next plan (ready plan radios noise) (request_of plan radio)) (Poll plan.control) ≡ ready plan (radios_by radios radio (lists_radio plan radio) (is_registered_in radios radio) (is_full radios)) (polled plan noise)
+registers_one : (plan : Settings) (radios noise : List ℕ) (radio : ℕ) → plan.lists.control < 16 → IfSome plan.system.leave_bit (IsNumberOf key.LeaveBit) → next plan (next plan (ready plan radios noise) (request_of plan radio)) (Poll plan.lists.control) ≡ ready plan (radios_by radios radio (lists_radio plan radio) (is_registered_in radios radio) (is_full radios)) (polled plan noise)
 registers_one plan radios noise radio small within =
     let now = ready plan radios noise in
-    let others = acts_for_leaving plan now (record { options = options_to_stay plan; source = radio; target = plan.regi }) in
+    let others = acts_for_leaving plan now (record { options = options_to_stay plan; source = radio; target = plan.system.regi }) in
     let listed = lists_radio plan radio in
     let here = is_registered_in radios radio in
     let full = is_full radios in
-    ap (answered plan radios noise radio) (acts_at plan radios noise radio plan.control small ∙ ap (λ (leaves : Bool). acts_by plan radio others leaves listed here full) (stays plan plan.leave_bit within))
-    ∙ by_answer plan radios noise radio others listed here full (answers plan radios noise radio plan.control small)
+    ap (answered plan radios noise radio) (acts_at plan radios noise radio plan.lists.control small ∙ ap (λ (leaves : Bool). acts_by plan radio others leaves listed here full) (stays plan plan.system.leave_bit within))
+    ∙ by_answer plan radios noise radio others listed here full (answers plan radios noise radio plan.lists.control small)
 
 -- ---- all radios
 
@@ -185,17 +187,17 @@ joins : (radios : List ℕ) (radio : ℕ) (later : List ℕ) (listed : Bool) →
 joins radios radio later true = refl
 joins radios radio later false = refl
 
-registers_all : (plan : Settings) (earlier noise radios : List ℕ) → plan.control < 16 → IfSome plan.leave_bit (IsNumberOf key.LeaveBit) → fold (next plan) (ready plan earlier noise) (flat_map (registers plan) radios ++ Lost plan.control ∷ []) ≡ facts_with (fold radios_after_join earlier (filter (lists_radio plan) radios))
-registers_all plan earlier noise [] small within = ends plan earlier noise plan.control small
+registers_all : (plan : Settings) (earlier noise radios : List ℕ) → plan.lists.control < 16 → IfSome plan.system.leave_bit (IsNumberOf key.LeaveBit) → fold (next plan) (ready plan earlier noise) (flat_map (registers plan) radios ++ Lost plan.lists.control ∷ []) ≡ facts_with (fold radios_after_join earlier (filter (lists_radio plan) radios))
+registers_all plan earlier noise [] small within = ends plan earlier noise plan.lists.control small
 registers_all plan earlier noise (radio ∷ radios) small within =
     let joined = radios_by earlier radio (lists_radio plan radio) (is_registered_in earlier radio) (is_full earlier) in
-    ap (λ (now : Facts). fold (next plan) now (flat_map (registers plan) radios ++ Lost plan.control ∷ [])) (registers_one plan earlier noise radio small within)
+    ap (λ (now : Facts). fold (next plan) now (flat_map (registers plan) radios ++ Lost plan.lists.control ∷ [])) (registers_one plan earlier noise radio small within)
     ∙ registers_all plan joined (polled plan noise) radios small within
     ∙ ap facts_with (joins earlier radio (filter (lists_radio plan) radios) (lists_radio plan radio))
 
 -- after the session the site is one that starts with these radios registered
-pub session_registers : (plan : Settings) (radios : List ℕ) (journal : List Entry) → plan.control < 16 → IsPlan plan → IsLegal plan no_facts journal → events_of journal ≡ reverse (session_of plan radios) → facts_after plan no_facts journal ≡ facts_with (restored plan radios)
+pub session_registers : (plan : Settings) (radios : List ℕ) (journal : List Entry) → plan.lists.control < 16 → IsPlan plan → IsLegal plan no_facts journal → events_of journal ≡ reverse (session_of plan radios) → facts_after plan no_facts journal ≡ facts_with (restored plan radios)
 session_registers plan radios journal small known legal are =
     all_steps plan no_facts journal legal ∙ ap (fold (next plan) no_facts) (ap reverse are ∙ reverse-reverse (session_of plan radios))
-    ∙ ap (λ (now : Facts). fold (next plan) now (flat_map (registers plan) radios ++ Lost plan.control ∷ [])) (begins plan plan.control small ∙ ap (up_if plan) known.control)
-    ∙ registers_all plan [] (noise_at_up plan) radios small known.leave_bit
+    ∙ ap (λ (now : Facts). fold (next plan) now (flat_map (registers plan) radios ++ Lost plan.lists.control ∷ [])) (begins plan plan.lists.control small ∙ ap (up_if plan) known.lists.control)
+    ∙ registers_all plan [] (noise_at_up plan) radios small known.system.leave_bit

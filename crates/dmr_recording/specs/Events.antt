@@ -6,6 +6,7 @@ use Rattle.dmr_plan.specs.declared.settings.Settings.{Settings}
 use Rattle.dmr_plan.specs.declared.carriers.CarrierRow.{CarrierRow}
 use Rattle.dmr_plan.specs.Carriers.{row_with}
 use Rattle.dmr_burst.specs.Functions.{burst_of}
+use Rattle.dmr_core.specs.CommandWords.{command_text}
 use Rattle.dmr_core.specs.declared.entry.Entry.{Entry}
 use Rattle.dmr_core.specs.declared.event.Event.{Event}
 use Rattle.dmr_core.specs.declared.event.Event.TheVariants as event
@@ -16,14 +17,13 @@ use Rattle.dmr_frames.specs.Frames.{spelling}
 use Rattle.dmr_link.specs.Input.{At, Opening, Octets, Cutting, Saying, Ticking}
 use Rattle.dmr_link.specs.Notices.{Notice, Accepted, Happened}
 use Rattle.dmr_replay.specs.Script.{RepeatedInput, once}
-use Rattle.dmr_recording.specs.Commands.{command_text}
 
 -- ---- one event
 
 -- a carrier's channel in the plan
 abbrev pub lpcn_of : Settings → ℕ → ℕ
 lpcn_of plan carrier =
-    option_map_or (λ (row : CarrierRow). row.lpcn) (row_with plan.carriers carrier) 0
+    option_map_or (λ (row : CarrierRow). row.lpcn) (row_with plan.lists.carriers carrier) 0
 
 -- the HELLO of a carrier of the plan, in version 1
 abbrev pub hello_of : Settings → ℕ → FrameIn

@@ -1,5 +1,4 @@
 pub mod Lines
-pub mod Commands
 pub mod Events
 pub mod Recordable
 pub mod Records

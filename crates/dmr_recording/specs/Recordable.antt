@@ -3,6 +3,7 @@ use Rattle.std.specs.Prelude.{◌≡◌, ◌≢◌, ℕ, ◌+◌, ◌<◌, Bool,
 use Rattle.std.specs.Prelude.{◌⊎◌, None, is_some, slice_index_or, slice_set, fold}
 use Rattle.dmr_plan.specs.declared.settings.Settings.{Settings}
 use Rattle.dmr_burst.specs.Functions.{meaning_of, burst_of}
+use Rattle.dmr_core.specs.CommandWords.{IsSaid}
 use Rattle.dmr_core.specs.declared.command.Command.TheVariants.{Drop}
 use Rattle.dmr_core.specs.declared.event.Event.{Event}
 use Rattle.dmr_core.specs.declared.event.Event.TheVariants as event
@@ -11,7 +12,6 @@ use Rattle.dmr_recording.specs.declared.fault.RecordingFault.{RecordingFault}
 use Rattle.dmr_recording.specs.declared.fault.RecordingFault.TheVariants.{NotOfPlan, AlreadyUp}
 use Rattle.dmr_recording.specs.declared.fault.RecordingFault.TheVariants.{NotUp, NotHeard, NotSaid}
 use Rattle.dmr_recording.specs.declared.fault.RecordingFault.TheVariants.{OutOfMemory}
-use Rattle.dmr_recording.specs.Commands.{IsInRange}
 use Rattle.dmr_recording.specs.Events.{lpcn_of}
 
 -- whether a carrier is among those that are up
@@ -35,7 +35,7 @@ IsCarrier plan up whether carrier =
     × (is_up up carrier ≡ whether)
 
 -- the event can be recorded. Its carrier is one of the plan's, and is up, except for an Up. A burst exists that means
--- its PDU. Its command is not `drop 0`, which no line means
+-- its PDU. A line can mean its command: each but `drop 0`
 abbrev pub IsRecordable : Settings → List Bool → Event → Type 0
 IsRecordable plan up (event.Up c) = IsCarrier plan up false c
 IsRecordable plan up (event.Lost c) = IsCarrier plan up true c
@@ -46,7 +46,7 @@ IsRecordable plan up (event.Noise slot) = IsCarrier plan up true slot.carrier ×
 IsRecordable plan up (event.Active slot) = IsCarrier plan up true slot.carrier × (slot.slot < 2)
 IsRecordable plan up (event.Poll c) = IsCarrier plan up true c
 IsRecordable plan up event.Tick = Unit {0}
-IsRecordable plan up (event.Say command) = IsInRange command × (command ≢ Drop 0)
+IsRecordable plan up (event.Say command) = IsSaid command
 
 -- each event can be recorded, one after another
 abbrev pub AreRecordable : Settings → List Bool → List Event → Type 0

@@ -10,19 +10,19 @@ use Rattle.dmr_core.specs.declared.event.Event.TheVariants.{Up, Lost, Heard, Pol
 
 -- the options of a request that registers: the bit that separates it from a request to leave is 1
 abbrev pub options_to_stay : Settings → ℕ
-options_to_stay plan = option_map_or (λ bit. 2 ^ bit) plan.leave_bit 0
+options_to_stay plan = option_map_or (λ bit. 2 ^ bit) plan.system.leave_bit 0
 
 -- the request of a radio to be registered
 abbrev pub registration_of : Settings → ℕ → Pdu
-registration_of plan radio = Random (options_to_stay plan) 0 registration plan.regi radio
+registration_of plan radio = Random (options_to_stay plan) 0 registration plan.system.regi radio
 
 -- a radio registers on the control slot, and its acknowledgement is sent
 abbrev pub registers : Settings → ℕ → List Event
 registers plan radio =
-    Heard (record { carrier = plan.control; slot = 0 }) (registration_of plan radio)
-    ∷ Poll plan.control ∷ []
+    Heard (record { carrier = plan.lists.control; slot = 0 }) (registration_of plan radio)
+    ∷ Poll plan.lists.control ∷ []
 
 -- a session of the control carrier in which these radios register, in their order
 abbrev pub session_of : Settings → List ℕ → List Event
 session_of plan radios =
-    Up plan.control ∷ flat_map (registers plan) radios ++ Lost plan.control ∷ []
+    Up plan.lists.control ∷ flat_map (registers plan) radios ++ Lost plan.lists.control ∷ []

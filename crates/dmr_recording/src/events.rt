@@ -3,10 +3,10 @@
 ghost use Rattle.std.specs.Prelude.{string_bytes, ◌⊎◌, ◌↔◌};
 ghost use Rattle.std.specs.Prelude.{◌≡◌, ◌≢◌, ◌++◌, ◌∷◌, [], Some, IfErr, IfOk, OnOk, IsTrue};
 ghost use Rattle.dmr_burst.specs.Functions.{meaning_of, burst_of};
+ghost use Rattle.dmr_core.specs.CommandWords.{command_text, IsSaid};
 ghost use Rattle.dmr_frames.specs.declared.frame.FrameIn.TheVariants as frame;
 ghost use Rattle.dmr_frames.specs.Frames.{spelling};
 ghost use Rattle.dmr_link.specs.Input.{At, Opening, Octets, Saying};
-ghost use Rattle.dmr_recording.specs.Commands.{command_text, IsInRange};
 ghost use Rattle.dmr_recording.specs.Events.{inputs_of_event, lpcn_of};
 ghost use Rattle.dmr_recording.specs.Lines.{line_by, text_of};
 ghost use Rattle.dmr_recording.specs.Recordable.{IsCarrier, IsCarrierFault, IsFault, IsRecordable};
@@ -94,10 +94,12 @@ fn is_unsaid(command: &Command) -> bool
 fn write_command(place: usize, command: &Command, text: &mut String) -> Result<(), RecordingFault>
     ensures line { OnOk result (string_bytes text.new ≡ string_bytes text.old
         ++ line_by (Saying (command_text command.now ++ 10 ∷ [])) 1) }
-    ensures said { OnOk result (IsInRange command.now × (command.now ≢ Command.Drop 0)) }
+    ensures said { OnOk result (IsSaid command.now) }
     ensures fault { IfErr result (λ fault. (fault ≡ RecordingFault.OutOfMemory)
         ⊎ ((fault ≡ RecordingFault.NotSaid place) × (command.now ≡ Command.Drop 0))) }
 {
+    // The ranges of the numbers are known once they are read.
+    let _parts = command.parts();
     if is_unsaid(command) {
         Err(RecordingFault::NotSaid(place))
     } else {

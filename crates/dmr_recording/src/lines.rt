@@ -2,9 +2,8 @@
 
 ghost use Rattle.std.specs.Prelude.{string_bytes};
 ghost use Rattle.std.specs.Prelude.{◌≡◌, ◌++◌, ◌∷◌, [], decimal, IfErr, OnOk};
+ghost use Rattle.dmr_core.specs.CommandWords.{command_text};
 ghost use Rattle.dmr_link.specs.Input.{At, Opening, Octets, Cutting, Saying, Ticking};
-ghost use Rattle.dmr_recording.specs.Commands.{command_text as text_of_command};
-ghost use Rattle.dmr_recording.specs.Commands.{IsInRange};
 ghost use Rattle.dmr_recording.specs.Lines.{line_by};
 
 use crate::fault::RecordingFault;
@@ -99,8 +98,7 @@ pub fn write_ticks(text: &mut String, count: u32) -> Result<(), RecordingFault>
 /// Appends `say TEXT`: an operator sends the words of a command and an LF.
 pub fn write_say(text: &mut String, command: &Command) -> Result<(), RecordingFault>
     ensures ok { OnOk result (string_bytes text.new ≡ string_bytes text.old
-        ++ line_by (Saying (text_of_command command.now ++ 10 ∷ [])) 1) }
-    ensures range { OnOk result (IsInRange command.now) }
+        ++ line_by (Saying (command_text command.now ++ 10 ∷ [])) 1) }
     ensures err { IfErr result (λ fault. fault ≡ RecordingFault.OutOfMemory) }
 {
     push(text, "say ")?;
@@ -111,32 +109,11 @@ pub fn write_say(text: &mut String, command: &Command) -> Result<(), RecordingFa
 /// Appends the words of a command, without the LF after them.
 fn push_command(text: &mut String, command: &Command) -> Result<(), RecordingFault>
     ensures ok { OnOk result
-        (string_bytes text.new ≡ string_bytes text.old ++ text_of_command command.now) }
-    ensures range { OnOk result (IsInRange command.now) }
+        (string_bytes text.new ≡ string_bytes text.old ++ command_text command.now) }
     ensures err { IfErr result (λ fault. fault ≡ RecordingFault.OutOfMemory) }
 {
-    match command {
-        Command::Status => push(text, "status"),
-        Command::Radios(radio) => push_argument(text, "radios ", radio.get()),
-        Command::Calls(carrier) => push_argument(text, "calls ", carrier.get()),
-        Command::Lines(place) => push_argument(text, "lines ", u32::from(place.get())),
-        Command::Slots => push(text, "slots"),
-        Command::Drop(radio) => push_argument(text, "drop ", radio.get()),
-        Command::End(carrier, slot) => {
-            push_argument(text, "end ", carrier.get())?;
-            push_argument(text, " ", slot.get())
-        }
-        Command::Move(channel) => push_argument(text, "move ", channel.get()),
-        Command::Stay => push(text, "stay"),
+    match write!(text, "{command}") {
+        Ok(()) => Ok(()),
+        Err(_) => Err(RecordingFault::OutOfMemory),
     }
-}
-
-/// Appends a word and a number.
-fn push_argument(text: &mut String, name: &str, number: u32) -> Result<(), RecordingFault>
-    ensures ok { OnOk result
-        (string_bytes text.new ≡ string_bytes text.old ++ name.now ++ decimal number) }
-    ensures err { IfErr result (λ fault. fault ≡ RecordingFault.OutOfMemory) }
-{
-    push(text, name)?;
-    push_number(text, number)
 }

@@ -44,7 +44,7 @@ fn registration_of(plan: &Plan, radio: Address) -> Pdu
 
 /// Returns the event in which a radio asks to be registered.
 fn request_of(plan: &Plan, radio: Address) -> Event
-    ensures { result ≡ AnEvent.Heard (record { carrier = plan.now.control; slot = 0 })
+    ensures { result ≡ AnEvent.Heard (record { carrier = plan.now.lists.control; slot = 0 })
         (registration plan.now radio) }
 {
     let slot = Slot::new(plan.control(), SlotNo::new(0));

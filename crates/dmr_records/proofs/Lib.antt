@@ -5,3 +5,4 @@ pub mod ReadingLemmas
 pub mod TablesLemmas
 pub mod CommitLemmas
 pub mod ReachedLemmas
+mod CommandEvents

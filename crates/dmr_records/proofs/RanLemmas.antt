@@ -3,10 +3,6 @@ use Rattle.std.proofs.Common.{◌≡◌, ◌+◌, ◌<◌, ◌≤◌, inl, inr, 
 use Rattle.std.proofs.lemmas.List.{drop_more, drop_all}
 use Rattle.sqlite.specs.Store.{Ghosts}
 use Rattle.sqlite.specs.Order.{Row}
-use Rattle.sqlite.specs.Value.{owned}
-use Rattle.sqlite.specs.Values.{bound, bound_value}
-use Rattle.sqlite.specs.declared.types.Value.{Value}
-use Rattle.sqlite.specs.declared.types.ValueRef.{ValueRef}
 use Rattle.sqlite.specs.declared.error.Error.{Error}
 use Rattle.sqlite.specs.declared.error.Error.TheVariants.{SqliteFailure}
 use Rattle.sqlite.specs.declared.error.ErrorCode.TheVariants.{TransactionState}
@@ -151,24 +147,3 @@ ran_ok g it old new count runs survives = inr (new, record { fact = λ clean ins
 pub ran_err : {S : Type 0} (g : Ghosts S) (it : Statement) (old new : Held S) (e : Error) → (HasCleanDisk (state g new) → IsTrue (state g old).in_transaction → ExecutesInside 0 it.text it.params (state g old) (state g new) (Err e)) → Survives (state g old) (state g new) (λ _. ⊥)
     → RanAll g (it ∷ []) old new (Err e)
 ran_err g it old new e runs survives = inl (e, refl, record { fact = runs; survives = survives })
-
--- the values that are bound, one by one
-bound_cons : (v : ValueRef) (vs : List ValueRef) (x : Value) (xs : Row) → bound_value (owned v) ≡ x → bound vs ≡ xs → bound (v ∷ vs) ≡ x ∷ xs
-bound_cons v vs x xs first rest = cc
-
--- 11 values that are bound
-pub bound_11 : (v1 v2 v3 v4 v5 v6 v7 v8 v9 v10 v11 : ValueRef) (x1 x2 x3 x4 x5 x6 x7 x8 x9 x10 x11 : Value)
-    → bound_value (owned v1) ≡ x1 → bound_value (owned v2) ≡ x2 → bound_value (owned v3) ≡ x3 → bound_value (owned v4) ≡ x4 → bound_value (owned v5) ≡ x5 →
-    bound_value (owned v6) ≡ x6 → bound_value (owned v7) ≡ x7 → bound_value (owned v8) ≡ x8 → bound_value (owned v9) ≡ x9 → bound_value (owned v10) ≡ x10 →
-    bound_value (owned v11) ≡ x11 → bound (v1 ∷ v2 ∷ v3 ∷ v4 ∷ v5 ∷ v6 ∷ v7 ∷ v8 ∷ v9 ∷ v10 ∷ v11 ∷ []) ≡ x1 ∷ x2 ∷ x3 ∷ x4 ∷ x5 ∷ x6 ∷ x7 ∷ x8 ∷ x9 ∷ x10 ∷ x11 ∷ []
-bound_11 v1 v2 v3 v4 v5 v6 v7 v8 v9 v10 v11 x1 x2 x3 x4 x5 x6 x7 x8 x9 x10 x11 e1 e2 e3 e4 e5 e6 e7 e8 e9 e10 e11 = cc
-
--- 12 values that are bound
-pub bound_12 : (v1 v2 v3 v4 v5 v6 v7 v8 v9 v10 v11 v12 : ValueRef) (x1 x2 x3 x4 x5 x6 x7 x8 x9 x10 x11 x12 : Value)
-    → bound_value (owned v1) ≡ x1 → bound_value (owned v2) ≡ x2 → bound_value (owned v3) ≡ x3 → bound_value (owned v4) ≡ x4 → bound_value (owned v5) ≡ x5 →
-    bound_value (owned v6) ≡ x6 → bound_value (owned v7) ≡ x7 → bound_value (owned v8) ≡ x8 → bound_value (owned v9) ≡ x9 → bound_value (owned v10) ≡ x10 →
-    bound_value (owned v11) ≡ x11 → bound_value (owned v12) ≡ x12 →
-    bound (v1 ∷ v2 ∷ v3 ∷ v4 ∷ v5 ∷ v6 ∷ v7 ∷ v8 ∷ v9 ∷ v10 ∷ v11 ∷ v12 ∷ []) ≡ x1 ∷ x2 ∷ x3 ∷ x4 ∷ x5 ∷ x6 ∷ x7 ∷ x8 ∷ x9 ∷ x10 ∷ x11 ∷ x12 ∷ []
-bound_12 v1 v2 v3 v4 v5 v6 v7 v8 v9 v10 v11 v12 x1 x2 x3 x4 x5 x6 x7 x8 x9 x10 x11 x12 e1 e2 e3 e4 e5 e6 e7 e8 e9 e10 e11 e12 =
-    bound_cons v1 (v2 ∷ v3 ∷ v4 ∷ v5 ∷ v6 ∷ v7 ∷ v8 ∷ v9 ∷ v10 ∷ v11 ∷ v12 ∷ []) x1 (x2 ∷ x3 ∷ x4 ∷ x5 ∷ x6 ∷ x7 ∷ x8 ∷ x9 ∷ x10 ∷ x11 ∷ x12 ∷ []) e1
-    (bound_11 v2 v3 v4 v5 v6 v7 v8 v9 v10 v11 v12 x2 x3 x4 x5 x6 x7 x8 x9 x10 x11 x12 e2 e3 e4 e5 e6 e7 e8 e9 e10 e11 e12)

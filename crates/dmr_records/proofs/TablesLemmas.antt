@@ -1,5 +1,6 @@
 -- The tables: what a transaction finds, and transactions one after another.
 use Rattle.std.proofs.Common.{◌≡◌, ℕ, ℤ, pos, List, Option, None, Some, refl, Result, Ok, Err, IfErr, IfOk, arith, subst}
+use Rattle.std.specs.Fmt.{digits}
 use Rattle.sqlite.specs.Store.{Ghosts}
 use Rattle.sqlite.specs.declared.error.Error.{Error}
 use Rattle.sqlite.specs.State.{HasCleanDisk, IsRolledBack, Survives}
@@ -8,6 +9,8 @@ use Rattle.sqlite.specs.Held.{Held, state}
 use Rattle.sqlite.proofs.StateLemmas.{survives_then}
 use Rattle.sqlite.proofs.Callers.{survives_begin}
 use Rattle.dmr_records.specs.Ran.{begun, Looks}
+use Rattle.dmr_records.specs.Statements.{version_before}
+use Rattle.dmr_records.specs.declared.rows.TheConstants.{CARRY_OVER, TABLES}
 use Rattle.dmr_records.specs.Tables.{carry_over, tables, MayLeaveTables, MayPrepare, FindsVersion, FindsNoVersion, HasVersion, HasNoVersion, Needs}
 use Rattle.dmr_records.proofs.QueryLemmas.{early, has_committed}
 
@@ -43,10 +46,20 @@ may_prepare g text old found new needs first second =
     survives_then (state g old) (state g found) (state g new) (λ _. ⊥) (MayLeaveTables g text found) (MayPrepare g old) (λ _ db no. absurd no)
     (λ clean db may. (found, text, needs (omega (arith, second.clean)), may)) first second
 
--- a database that has no table needs the statements that make them
-pub none_needs : {S : Type 0} (g : Ghosts S) (old found : Held S) → HasVersion g old found None → Needs g old found tables
-none_needs g old found none = record { version = None; has = none; statements = refl }
+-- the code has the statements that make the tables, and those that carry them over
+tables_text : TABLES.now ≡ tables
+unfolding digits
+tables_text = refl
 
--- and tables of version 1 need those that carry them over
-pub before_needs : {S : Type 0} (g : Ghosts S) (old found : Held S) (version : ℤ) → HasVersion g old found (Some version) → version ≡ pos 1 → Needs g old found carry_over
-before_needs g old found version has is = record { version = Some version; has = has; statements = (is, refl) }
+carry_over_text : CARRY_OVER.now ≡ carry_over
+unfolding digits
+carry_over_text = refl
+
+-- a database that has no table needs the former
+pub none_needs : {S : Type 0} (g : Ghosts S) (old found : Held S) → HasVersion g old found None → Needs g old found TABLES.now
+none_needs g old found none = record { version = None; has = none; statements = tables_text }
+
+-- and tables of the version before need the latter
+pub before_needs : {S : Type 0} (g : Ghosts S) (old found : Held S) (number : ℤ) → HasVersion g old found (Some number)
+    → number ≡ pos version_before → Needs g old found CARRY_OVER.now
+before_needs g old found number has is = record { version = Some number; has = has; statements = (is, carry_over_text) }

@@ -1,9 +1,14 @@
 -- The events of a term: the changes of registration and the notes, each as a row of the table `events`.
-use Rattle.std.specs.Prelude.{ℕ, Some, None}
+use Rattle.std.specs.Prelude.{ℕ, List, ◌∷◌, Some, None}
+use Rattle.dmr_core.specs.declared.command.Argument.{Argument}
+use Rattle.dmr_core.specs.declared.command.Argument.TheVariants as argument
+use Rattle.dmr_core.specs.declared.command.Command.{Command}
+use Rattle.dmr_core.specs.CommandWords.{kind_of, numbers_of, row_of}
 use Rattle.dmr_keeper.specs.declared.changes.Change.{Change}
 use Rattle.dmr_keeper.specs.declared.changes.ChangeKind.{ChangeKind}
 use Rattle.dmr_keeper.specs.declared.changes.ChangeKind.TheVariants as change
 use Rattle.dmr_keeper.specs.declared.notes.Note.{Note}
+use Rattle.dmr_keeper.specs.declared.notes.Outcome.{Outcome}
 use Rattle.dmr_keeper.specs.declared.notes.Occurrence.{Occurrence}
 use Rattle.dmr_keeper.specs.declared.notes.Occurrence.TheVariants as what
 use Rattle.dmr_records.specs.declared.events.EventRow.{EventRow}
@@ -33,8 +38,28 @@ kind_of_change change.Dropped = kind.Dropped
 abbrev pub event_of_change : Change → EventRow
 event_of_change c = record (bare c.tick (kind_of_change c.kind)) { radio = Some c.radio }
 
+-- the event with a number of a command in the column of its argument
+abbrev pub with_number : EventRow → Argument → ℕ → EventRow
+with_number e argument.Carrier n = record e { carrier = Some n }
+with_number e argument.Slot n = record e { slot = Some n }
+with_number e argument.Radio n = record e { radio = Some n }
+with_number e argument.Channel n = record e { channel = Some n }
+with_number e _ n = e
+
+-- the event with the numbers of a command in the columns of its arguments
+abbrev pub with_numbers : EventRow → List Argument → List ℕ → EventRow
+with_numbers e (a ∷ others) (n ∷ numbers) = with_numbers (with_number e a n) others numbers
+with_numbers e arguments numbers = e
+
+-- an operator's command: what it names, and its result
+abbrev pub event_of_command : ℕ → Command → Outcome → EventRow
+event_of_command tick c outcome =
+    record (with_numbers (bare tick (kind.Command (kind_of c))) (row_of c).arguments (numbers_of c)) {
+      reply = Some outcome;
+    }
+
 -- what happened: of a call that a radio joined, the radio, the talkgroup and the slot; of a refusal the radio that asked,
--- what it asked about and the reason; of a command what it names, and its result
+-- what it asked about and the reason
 abbrev pub event_of : ℕ → Occurrence → EventRow
 event_of tick (what.CameUp carrier) = record (bare tick kind.CameUp) { carrier = Some carrier }
 event_of tick (what.WasLost carrier) = record (bare tick kind.WasLost) { carrier = Some carrier }
@@ -47,13 +72,7 @@ event_of tick (what.JoinedCall radio target carrier slot) =
     }
 event_of tick (what.Refused source target reason) =
     record (bare tick kind.Refused) { radio = Some source; target = Some target; reason = Some reason }
-event_of tick (what.DropCommand radio outcome) =
-    record (bare tick kind.DropCommand) { radio = Some radio; reply = Some outcome }
-event_of tick (what.EndCommand carrier slot outcome) =
-    record (bare tick kind.EndCommand) { carrier = Some carrier; slot = Some slot; reply = Some outcome }
-event_of tick (what.MoveCommand channel outcome) =
-    record (bare tick kind.MoveCommand) { channel = Some channel; reply = Some outcome }
-event_of tick (what.StayCommand outcome) = record (bare tick kind.StayCommand) { reply = Some outcome }
+event_of tick (what.Commanded c outcome) = event_of_command tick c outcome
 
 abbrev pub event_of_note : Note → EventRow
 event_of_note note = event_of note.tick note.what

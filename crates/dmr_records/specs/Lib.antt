@@ -1,5 +1,6 @@
 pub mod Words
 pub mod Events
+pub mod Sql
 pub mod Statements
 pub mod Ran
 pub mod Written

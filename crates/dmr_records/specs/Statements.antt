@@ -1,4 +1,4 @@
--- The statements that write the records of a term: the text of each, and the values of its parameters.
+-- The statements that write the records of a term: the columns of each table, and the values of a row in them.
 use Rattle.std.specs.Prelude.{ℕ, ◌+◌, ℤ, pos, negsuc, min, List, [], ◌∷◌, ◌++◌, map, length, codes}
 use Rattle.std.specs.Prelude.{Bool, if◌then◌else◌, ◌/◌, ◌%◌, ◌==◌}
 use Rattle.sqlite.specs.Order.{Row}
@@ -17,7 +17,10 @@ use Rattle.dmr_keeper.specs.Times.{time_of_tick}
 use Rattle.dmr_records.specs.declared.events.EventRow.{EventRow}
 use Rattle.dmr_records.specs.declared.term_row.TermRow.{TermRow}
 use Rattle.dmr_records.specs.Events.{event_of_change, event_of_note}
+use Rattle.dmr_records.specs.Sql.{Column, added_in, insert_into, integer, integer_or_null, key}
+use Rattle.dmr_records.specs.Sql.{listed, word, word_or_null}
 use Rattle.dmr_records.specs.Words.{cause_word, kind_word, outcome_word}
+use Prim.Native.String.{String}
 
 -- a statement: its text, and the values of its parameters
 pub record Statement : Type 0 where
@@ -54,25 +57,42 @@ row_of_term number term = record {
 abbrev pub time_in : TermRow → ℕ → Value
 time_in term tick = count (time_of_tick term.time term.last_tick tick)
 
+-- the version of tables with these columns, and that from which they are carried over
+abbrev pub version : ℕ
+version = 2
+
+abbrev pub version_before : ℕ
+version_before = 1
+
+abbrev pub term_columns : List Column
+term_columns =
+    map integer
+    ("ended_ms" ∷ "tick_ms" ∷ "last_tick" ∷ "entries" ∷ "heard" ∷ "requests" ∷ "noise" ∷ "active"
+    ∷ "polls" ∷ "ticks" ∷ "commands" ∷ "grants" ∷ "late_entries" ∷ "registrations" ∷ "refusals"
+    ∷ "begun" ∷ "ended" ∷ "most_lines" ∷ [])
+
 -- the row of a term: its time, the ticks up to its end, and its counts
 abbrev pub put_term : TermTime → ℕ → TermCounts → Statement
 put_term time ticks c = record {
-  text =
-      codes
-      "INSERT INTO terms (ended_ms, tick_ms, last_tick, entries, heard, requests, noise, active, polls, ticks, commands, grants, late_entries, registrations, refusals, begun, ended, most_lines) VALUES (?1, ?2, ?3, ?4, ?5, ?6, ?7, ?8, ?9, ?10, ?11, ?12, ?13, ?14, ?15, ?16, ?17, ?18)";
+  text = insert_into "terms" term_columns;
   params =
       count time.ended ∷ number time.tick_ms ∷ count ticks ∷ count c.entries ∷ count c.heard
-      ∷ count c.requests ∷ count c.noise ∷ count c.active ∷ count c.polls ∷ count c.ticks ∷ count c.commands ∷ count c.grants
-      ∷ count c.late_entries ∷ count c.registrations ∷ count c.refusals ∷ count c.begun
-      ∷ count c.ended ∷ count c.most_lines ∷ [];
+      ∷ count c.requests ∷ count c.noise ∷ count c.active ∷ count c.polls ∷ count c.ticks
+      ∷ count c.commands ∷ count c.grants ∷ count c.late_entries ∷ count c.registrations
+      ∷ count c.refusals ∷ count c.begun ∷ count c.ended ∷ count c.most_lines ∷ [];
 }
+
+abbrev pub call_columns : List Column
+call_columns =
+    map integer
+    ("term" ∷ "carrier" ∷ "slot" ∷ "is_group" ∷ "source" ∷ "target" ∷ "began" ∷ "began_ms" ∷ "ended"
+    ∷ "ended_ms" ∷ [])
+    ++ word "cause" ∷ added_in 2 (integer_or_null "waited") ∷ []
 
 -- the row of a call in the term with this row
 abbrev pub put_call : TermRow → EndedCall → Statement
 put_call term c = record {
-  text =
-      codes
-      "INSERT INTO calls (term, carrier, slot, is_group, source, target, began, began_ms, ended, ended_ms, cause, waited) VALUES (?1, ?2, ?3, ?4, ?5, ?6, ?7, ?8, ?9, ?10, ?11, ?12)";
+  text = insert_into "calls" call_columns;
   params =
       count term.number ∷ number c.call.slot.carrier ∷ number c.call.slot.slot ∷ flag c.call.group
       ∷ number c.call.source ∷ number c.call.target ∷ count c.began ∷ time_in term c.began
@@ -80,12 +100,17 @@ put_call term c = record {
       ∷ count c.waited ∷ [];
 }
 
+abbrev pub event_columns : List Column
+event_columns =
+    map integer ("term" ∷ "tick" ∷ "at_ms" ∷ [])
+    ++ word "kind" ∷ []
+    ++ map integer_or_null ("carrier" ∷ "slot" ∷ "radio" ∷ "target" ∷ "channel" ∷ "reason" ∷ [])
+    ++ word_or_null "reply" ∷ []
+
 -- the row of an event in the term with this row
 abbrev pub put_event : TermRow → EventRow → Statement
 put_event term e = record {
-  text =
-      codes
-      "INSERT INTO events (term, tick, at_ms, kind, carrier, slot, radio, target, channel, reason, reply) VALUES (?1, ?2, ?3, ?4, ?5, ?6, ?7, ?8, ?9, ?10, ?11)";
+  text = insert_into "events" event_columns;
   params =
       count term.number ∷ count e.tick ∷ time_in term e.tick ∷ Words (kind_word e.kind)
       ∷ or_null number e.carrier ∷ or_null number e.slot ∷ or_null number e.radio ∷ or_null number e.target
@@ -93,23 +118,30 @@ put_event term e = record {
       ∷ or_null (λ o. Words (outcome_word o)) e.reply ∷ [];
 }
 
+abbrev pub carrier_columns : List Column
+carrier_columns =
+    map (added_in 2)
+    (map integer ("term" ∷ "carrier" ∷ "polls" ∷ "heard" ∷ "noise" ∷ "active" ∷ []))
+
 -- the row of the counts of a carrier in the term with this row
 abbrev pub put_carrier : TermRow → CarrierCounts → Statement
 put_carrier term c = record {
-  text =
-      codes
-      "INSERT INTO carriers (term, carrier, polls, heard, noise, active) VALUES (?1, ?2, ?3, ?4, ?5, ?6)";
+  text = insert_into "carriers" carrier_columns;
   params =
       count term.number ∷ number c.carrier ∷ count c.polls ∷ count c.heard ∷ count c.noise
       ∷ count c.active ∷ [];
 }
 
+abbrev pub registration_columns : List Column
+registration_columns = key "place" ∷ integer "radio" ∷ []
+
 -- the radio at a place. A row that has this radio already is not written
 abbrev pub put_registration : ℕ → ℕ → Statement
 put_registration place radio = record {
   text =
-      codes
-      "INSERT INTO registrations (place, radio) VALUES (?1, ?2) ON CONFLICT (place) DO UPDATE SET radio = excluded.radio WHERE radio <> excluded.radio";
+      insert_into "registrations" registration_columns
+      ++ codes
+      " ON CONFLICT (place) DO UPDATE SET radio = excluded.radio WHERE radio <> excluded.radio";
   params = count place ∷ number radio ∷ [];
 }
 
@@ -127,39 +159,39 @@ cut_registrations last = record {
 }
 
 -- the numbers up to which rows are removed, so that of each table only this number of the newest stays
+abbrev pub newest_but : String → List ℕ
+newest_but table =
+    codes table ++ codes " = (SELECT max(number) FROM " ++ codes table ++ codes ") - ?1"
+
 abbrev pub mark_removed : ℕ → Statement
 mark_removed most = record {
   text =
-      codes
-      "UPDATE removed SET calls = (SELECT max(number) FROM calls) - ?1, events = (SELECT max(number) FROM events) - ?1, terms = (SELECT max(number) FROM terms) - ?1";
+      codes "UPDATE removed SET "
+      ++ listed (newest_but "calls" ∷ newest_but "events" ∷ newest_but "terms" ∷ []);
   params = number most ∷ [];
 }
 
--- the rows up to these numbers are removed
-abbrev pub prune_calls : Statement
-prune_calls = record {
-  text = codes "DELETE FROM calls WHERE number <= (SELECT calls FROM removed)";
+-- the rows of a table are removed whose number in this column is at most that which was set for another table
+abbrev pub prune_rows : String → String → String → Statement
+prune_rows table number by = record {
+  text =
+      codes "DELETE FROM " ++ codes table ++ codes " WHERE " ++ codes number
+      ++ codes " <= (SELECT " ++ codes by ++ codes " FROM removed)";
   params = [];
 }
+
+abbrev pub prune_calls : Statement
+prune_calls = prune_rows "calls" "number" "calls"
 
 abbrev pub prune_events : Statement
-prune_events = record {
-  text = codes "DELETE FROM events WHERE number <= (SELECT events FROM removed)";
-  params = [];
-}
+prune_events = prune_rows "events" "number" "events"
 
 abbrev pub prune_terms : Statement
-prune_terms = record {
-  text = codes "DELETE FROM terms WHERE number <= (SELECT terms FROM removed)";
-  params = [];
-}
+prune_terms = prune_rows "terms" "number" "terms"
 
 -- those of carriers have the numbers of their terms
 abbrev pub prune_carriers : Statement
-prune_carriers = record {
-  text = codes "DELETE FROM carriers WHERE term <= (SELECT terms FROM removed)";
-  params = [];
-}
+prune_carriers = prune_rows "carriers" "term" "terms"
 
 -- of calls, events and terms, only this number of the newest rows stays, and of carriers those of the terms that stay
 abbrev pub prune : ℕ → List Statement

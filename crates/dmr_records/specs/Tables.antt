@@ -1,5 +1,7 @@
 -- The tables of the file, and how a database gets them.
-use Rattle.std.specs.Prelude.{◌≡◌, ◌≢◌, ◌⊎◌, ℕ, ℤ, pos, ◌<ℤ◌, List, [], ◌++◌, codes, Option, None, Some, Ok, Err, IsTrue}
+use Rattle.std.specs.Prelude.{◌≡◌, ◌≢◌, ◌⊎◌, ℕ, ◌==◌, nat_le, ℤ, pos, ◌<ℤ◌, List, [], ◌∷◌, ◌++◌}
+use Rattle.std.specs.Prelude.{filter, flat_map, length, codes, decimal, Option, None, Some, Ok, Err}
+use Rattle.std.specs.Prelude.{IsTrue, if◌then◌else◌}
 use Rattle.sqlite.specs.Store.{Ghosts}
 use Rattle.sqlite.specs.Effect.{Database}
 use Rattle.sqlite.specs.Tree.{Trees}
@@ -19,6 +21,11 @@ use Rattle.dmr_records.specs.declared.fault.FileFault.{FileFault}
 use Rattle.dmr_records.specs.declared.fault.FileFault.TheVariants.{Newer, NotRecords}
 use Rattle.dmr_records.specs.Faults.{fault_of}
 use Rattle.dmr_records.specs.Ran.{begun, IsUndone}
+use Rattle.dmr_records.specs.Sql.{Column, copy_rows, create_table, drop_table, integer_or_null, key}
+use Rattle.dmr_records.specs.Statements.{call_columns, carrier_columns, event_columns}
+use Rattle.dmr_records.specs.Statements.{registration_columns, term_columns, version}
+use Rattle.dmr_records.specs.Statements.{version_before}
+use Prim.Native.String.{String}
 
 -- the query that counts the tables and indexes of a database
 abbrev pub count_tables : List ℕ
@@ -28,52 +35,80 @@ count_tables = codes "SELECT count(*) FROM sqlite_schema"
 abbrev pub select_version : List ℕ
 select_version = codes "SELECT max(version) FROM schema_version"
 
--- the statement that makes the table of the calls
-abbrev pub calls_table : List ℕ
-calls_table =
-    codes "CREATE TABLE calls (number INTEGER PRIMARY KEY, term INTEGER NOT NULL, carrier INTEGER NOT NULL, slot INTEGER NOT NULL, is_group INTEGER NOT NULL, source INTEGER NOT NULL, target INTEGER NOT NULL, began INTEGER NOT NULL, began_ms INTEGER NOT NULL, ended INTEGER NOT NULL, ended_ms INTEGER NOT NULL, cause TEXT NOT NULL, waited INTEGER) STRICT;"
+-- a table: its name, its columns, and what is said of more than one of them
+pub record Table : Type 0 where
+  pub name : List ℕ
+  pub columns : List Column
+  pub together : List (List ℕ)
 
--- the statement that makes the table of the counts of carriers
-abbrev pub carriers_table : List ℕ
-carriers_table =
-    codes "CREATE TABLE carriers (term INTEGER NOT NULL, carrier INTEGER NOT NULL, polls INTEGER NOT NULL, heard INTEGER NOT NULL, noise INTEGER NOT NULL, active INTEGER NOT NULL, PRIMARY KEY (term, carrier)) STRICT;"
+abbrev pub table_of : String → List Column → Table
+table_of name columns = record { name = codes name; columns = columns; together = [] }
 
--- the statements that make the tables of version 2
+abbrev pub all_tables : List Table
+all_tables =
+    table_of "schema_version" (key "version" ∷ [])
+    ∷ table_of "terms" (key "number" ∷ term_columns)
+    ∷ table_of "calls" (key "number" ∷ call_columns)
+    ∷ table_of "events" (key "number" ∷ event_columns)
+    ∷ record (table_of "carriers" carrier_columns) {
+      together = codes "PRIMARY KEY (term, carrier)" ∷ [];
+    }
+    ∷ table_of "registrations" registration_columns
+    ∷ table_of "removed"
+    (integer_or_null "calls" ∷ integer_or_null "events" ∷ integer_or_null "terms" ∷ [])
+    ∷ []
+
+-- the statement that makes a table
+abbrev pub made : Table → List ℕ
+made t = create_table t.name t.columns t.together
+
+-- the statements that make the tables
 abbrev pub tables : List ℕ
 tables =
-    codes "CREATE TABLE schema_version (version INTEGER PRIMARY KEY) STRICT;"
-    ++ codes "CREATE TABLE terms (number INTEGER PRIMARY KEY, ended_ms INTEGER NOT NULL, tick_ms INTEGER NOT NULL, last_tick INTEGER NOT NULL, entries INTEGER NOT NULL, heard INTEGER NOT NULL, requests INTEGER NOT NULL, noise INTEGER NOT NULL, active INTEGER NOT NULL, polls INTEGER NOT NULL, ticks INTEGER NOT NULL, commands INTEGER NOT NULL, grants INTEGER NOT NULL, late_entries INTEGER NOT NULL, registrations INTEGER NOT NULL, refusals INTEGER NOT NULL, begun INTEGER NOT NULL, ended INTEGER NOT NULL, most_lines INTEGER NOT NULL) STRICT;"
-    ++ calls_table
-    ++ codes "CREATE TABLE events (number INTEGER PRIMARY KEY, term INTEGER NOT NULL, tick INTEGER NOT NULL, at_ms INTEGER NOT NULL, kind TEXT NOT NULL, carrier INTEGER, slot INTEGER, radio INTEGER, target INTEGER, channel INTEGER, reason INTEGER, reply TEXT) STRICT;"
-    ++ carriers_table
-    ++ codes "CREATE TABLE registrations (place INTEGER PRIMARY KEY, radio INTEGER NOT NULL) STRICT;"
-    ++ codes "CREATE TABLE removed (calls INTEGER, events INTEGER, terms INTEGER) STRICT;"
+    flat_map made all_tables
     ++ codes "INSERT INTO removed (calls, events, terms) VALUES (0, 0, 0);"
-    ++ codes "INSERT INTO schema_version (version) VALUES (2)"
+    ++ codes "INSERT INTO schema_version (version) VALUES (" ++ decimal version ++ codes ")"
 
--- the statements that make the tables of version 2 from those of version 1: the rows of the calls are copied, since a
--- table cannot be given a column. Nothing is known of their waits, so that column of theirs is NULL
+-- the columns that a table has in the version before
+abbrev pub columns_before : Table → List Column
+columns_before t = filter (λ (c : Column). nat_le c.since version_before) t.columns
+
+-- the name of a table while its rows are copied
+abbrev pub name_before : Table → List ℕ
+name_before t = t.name ++ codes "_before"
+
+-- the statements that add columns to a table: its rows are copied, since a table cannot be given a column. A new column
+-- of theirs is NULL
+abbrev pub extended : Table → List ℕ
+extended t =
+    create_table (name_before t) (columns_before t) t.together
+    ++ copy_rows (columns_before t) t.name (name_before t)
+    ++ drop_table t.name
+    ++ made t
+    ++ copy_rows (columns_before t) (name_before t) t.name
+    ++ drop_table (name_before t)
+
+-- those that make this version of a table from the version before, in which it has this number of its columns
+abbrev pub carried : Table → ℕ → List ℕ
+carried t before =
+    if before == length t.columns then [] else (if before == 0 then made t else extended t)
+
+-- the statements that make the tables from those of the version before
 abbrev pub carry_over : List ℕ
 carry_over =
-    codes "CREATE TABLE calls_before (number INTEGER PRIMARY KEY, term INTEGER NOT NULL, carrier INTEGER NOT NULL, slot INTEGER NOT NULL, is_group INTEGER NOT NULL, source INTEGER NOT NULL, target INTEGER NOT NULL, began INTEGER NOT NULL, began_ms INTEGER NOT NULL, ended INTEGER NOT NULL, ended_ms INTEGER NOT NULL, cause TEXT NOT NULL) STRICT;"
-    ++ codes "INSERT INTO calls_before (number, term, carrier, slot, is_group, source, target, began, began_ms, ended, ended_ms, cause) SELECT number, term, carrier, slot, is_group, source, target, began, began_ms, ended, ended_ms, cause FROM calls;"
-    ++ codes "DROP TABLE calls;"
-    ++ calls_table
-    ++ codes "INSERT INTO calls (number, term, carrier, slot, is_group, source, target, began, began_ms, ended, ended_ms, cause) SELECT number, term, carrier, slot, is_group, source, target, began, began_ms, ended, ended_ms, cause FROM calls_before;"
-    ++ codes "DROP TABLE calls_before;"
-    ++ carriers_table
-    ++ codes "UPDATE schema_version SET version = 2"
+    flat_map (λ (t : Table). carried t (length (columns_before t))) all_tables
+    ++ codes "UPDATE schema_version SET version = " ++ decimal version
 
--- these statements make the tables of a database that has none, or those of version 1
+-- these statements make the tables of a database that has none, or those of the version before
 abbrev pub AreStatementsFor : Option ℤ → List ℕ → Type 0
 AreStatementsFor None text = text ≡ tables
-AreStatementsFor (Some version) text = (version ≡ pos 1) × (text ≡ carry_over)
+AreStatementsFor (Some found) text = (found ≡ pos version_before) × (text ≡ carry_over)
 
--- the fault of tables of another version than 1 and 2
+-- the fault of tables of another version than these two
 abbrev pub IsOtherVersion : ℤ → FileFault → Type 0
-IsOtherVersion version fault =
-    ((pos 2 <ℤ version) × (fault ≡ Newer version))
-    ⊎ ((version <ℤ pos 1) × (fault ≡ NotRecords))
+IsOtherVersion found fault =
+    ((pos version <ℤ found) × (fault ≡ Newer found))
+    ⊎ ((found <ℤ pos version_before) × (fault ≡ NotRecords))
 
 -- this is not a number, with this error
 abbrev pub IsNoNumber : Value → Error → Type 0
@@ -101,8 +136,8 @@ module _ {S : Type 0} (g : Ghosts S) where
   -- the tables are of this version. If there is no table, it is None
   abbrev pub FindsVersion : Held S → Held S → Option ℤ → Type 0
   FindsVersion old new None = ShowsNumber count_tables old new (pos 0)
-  FindsVersion old new (Some version) = (mid : Held S) × (n : ℤ) × (n ≢ pos 0)
-      × ShowsNumber count_tables old mid n × ShowsNumber select_version mid new version
+  FindsVersion old new (Some found) = (mid : Held S) × (n : ℤ) × (n ≢ pos 0)
+      × ShowsNumber count_tables old mid n × ShowsNumber select_version mid new found
 
   -- the version cannot be read, with this error
   abbrev pub FindsNoVersion : Held S → Held S → Error → Type 0
@@ -142,16 +177,17 @@ module _ {S : Type 0} (g : Ghosts S) where
       × ((ExecutesAllInside g 0 text (begun old) last (Err e) × IsUndone g last new)
       ⊎ (LeadTo text old last × FailsToCommit (state g last) (state g new) e))
 
-  -- a transaction shows that the database has no table, or those of version 1, and these are the statements for it
+  -- a transaction shows that the database has no table, or those of the version before, and these are the statements for
+  -- it
   pub record Needs (old found : Held S) (text : List ℕ) : Type 0 where
     pub version : Option ℤ
     pub has : HasVersion old found version
     pub statements : AreStatementsFor version text
 
-  -- the database has the tables of version 2: it had them, or had none or those of version 1, and they were made and
+  -- the database has the tables: it had them, or had none or those of the version before, and they were made and
   -- committed
   abbrev pub ArePrepared : Held S → Held S → Type 0
-  ArePrepared old new = HasVersion old new (Some (pos 2))
+  ArePrepared old new = HasVersion old new (Some (pos version))
       ⊎ ((found : Held S) × (text : List ℕ) × Needs old found text × AreMade text found new)
 
   -- the tables cannot be prepared, with this error of the library

@@ -1,5 +1,6 @@
 -- The words that the file has for causes, kinds of events and results of commands.
-use Rattle.std.specs.Prelude.{ℕ, List, codes}
+use Rattle.std.specs.Prelude.{ℕ, List, ◌++◌, codes}
+use Rattle.dmr_core.specs.CommandWords.{command_row}
 use Rattle.dmr_keeper.specs.declared.cause.EndCause.{EndCause}
 use Rattle.dmr_keeper.specs.declared.cause.EndCause.TheVariants as cause
 use Rattle.dmr_keeper.specs.declared.notes.Outcome.{Outcome}
@@ -25,10 +26,7 @@ kind_word kind.CameUp = codes "came_up"
 kind_word kind.WasLost = codes "was_lost"
 kind_word kind.JoinedCall = codes "joined_call"
 kind_word kind.Refused = codes "refused"
-kind_word kind.DropCommand = codes "drop_command"
-kind_word kind.EndCommand = codes "end_command"
-kind_word kind.MoveCommand = codes "move_command"
-kind_word kind.StayCommand = codes "stay_command"
+kind_word (kind.Command k) = (command_row k).name ++ codes "_command"
 
 -- the result of an operator's command
 abbrev pub outcome_word : Outcome → List ℕ

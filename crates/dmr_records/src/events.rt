@@ -1,10 +1,13 @@
 //! The events of a term: changes of registration and notes, each as a row of the table `events`.
 
 ghost use Rattle.std.specs.Prelude.{◌≡◌};
-ghost use Rattle.dmr_records.specs.Events.{bare as only, event_of, event_of_change as change_row};
+ghost use Rattle.dmr_records.specs.Events.{bare as only, event_of_change as change_row};
+ghost use Rattle.dmr_records.specs.Events.{event_of_command as event_by_command};
 ghost use Rattle.dmr_records.specs.Events.{event_of_note as note_row};
 ghost use Rattle.dmr_records.specs.Events.{kind_of_change as kind_by_change};
+ghost use Rattle.dmr_records.specs.Events.{with_number, with_numbers};
 
+use dmr_core::{Argument, Command, CommandKind};
 use dmr_keeper::{Change, ChangeKind, Note, Occurrence, Outcome};
 
 /// The kind of an event.
@@ -24,14 +27,8 @@ pub enum EventKind {
     JoinedCall,
     /// A request was refused.
     Refused,
-    /// An operator sent `drop`.
-    DropCommand,
-    /// An operator sent `end`.
-    EndCommand,
-    /// An operator sent `move`.
-    MoveCommand,
-    /// An operator sent `stay`.
-    StayCommand,
+    /// An operator sent a command of this kind.
+    Command(CommandKind),
 }
 
 /// An event with the values of its columns. A value that its kind does not have is `None`.
@@ -94,6 +91,46 @@ pub fn event_of_change(change: &Change) -> EventRow
     event
 }
 
+/// Puts a number of a command into the column of its argument. Arguments of commands that only ask have no column.
+fn put_number(event: &mut EventRow, argument: &Argument, number: u32)
+    ensures { event.new ≡ with_number event.old argument.now number }
+{
+    match argument {
+        Argument::Carrier => event.carrier = Some(number),
+        Argument::Slot => event.slot = Some(number),
+        Argument::Radio => event.radio = Some(number),
+        Argument::Channel => event.channel = Some(number),
+        Argument::FromRadio | Argument::Line => {}
+    }
+}
+
+/// Puts the numbers of a command into the columns of its arguments.
+fn put_numbers(event: &mut EventRow, arguments: &[Argument], numbers: &[u32])
+    ensures { event.new ≡ with_numbers event.old arguments.now numbers.now }
+{
+    match arguments {
+        [] => {}
+        [argument, others @ ..] => match numbers {
+            [] => {}
+            [number, rest @ ..] => {
+                put_number(event, argument, *number);
+                put_numbers(event, others, rest);
+            }
+        },
+    }
+}
+
+/// The event of a command with its result.
+fn event_of_command(tick: u64, command: &Command, outcome: Outcome) -> EventRow
+    ensures { result ≡ event_by_command tick command.now outcome }
+{
+    let (kind, numbers) = command.parts();
+    let mut event = bare(tick, EventKind::Command(kind));
+    put_numbers(&mut event, kind.row().arguments, numbers.as_slice());
+    event.reply = Some(outcome);
+    event
+}
+
 /// The event of a note.
 pub fn event_of_note(note: &Note) -> EventRow
     ensures { result ≡ note_row note.now }
@@ -134,33 +171,6 @@ pub fn event_of_note(note: &Note) -> EventRow
             event.reason = Some(reason.get());
             event
         }
-        Occurrence::DropCommand { radio, outcome } => {
-            let mut event = bare(tick, EventKind::DropCommand);
-            event.radio = Some(radio.get());
-            event.reply = Some(*outcome);
-            event
-        }
-        Occurrence::EndCommand {
-            carrier,
-            slot,
-            outcome,
-        } => {
-            let mut event = bare(tick, EventKind::EndCommand);
-            event.carrier = Some(carrier.get());
-            event.slot = Some(slot.get());
-            event.reply = Some(*outcome);
-            event
-        }
-        Occurrence::MoveCommand { channel, outcome } => {
-            let mut event = bare(tick, EventKind::MoveCommand);
-            event.channel = Some(channel.get());
-            event.reply = Some(*outcome);
-            event
-        }
-        Occurrence::StayCommand { outcome } => {
-            let mut event = bare(tick, EventKind::StayCommand);
-            event.reply = Some(*outcome);
-            event
-        }
+        Occurrence::Commanded { command, outcome } => event_of_command(tick, command, *outcome),
     }
 }

@@ -1,4 +1,4 @@
-//! The statements that write a row.
+//! The columns of the tables in SQL, and the statements that write a row.
 //!
 //! Each function runs one statement in a transaction. If the statement fails or is refused, the transaction is as the
 //! library leaves it, and its owner drops it, which rolls it back.
@@ -7,11 +7,6 @@ ghost use Rattle.std.specs.Prelude.{◌≡◌, [], ◌∷◌};
 ghost use Rattle.sqlite.specs.Values.{bound};
 ghost use Rattle.dmr_records.specs.Ran.{Keeps, RanAll};
 ghost use Rattle.dmr_records.specs.Statements.{cut_registrations as statement_of_cut};
-ghost use Rattle.dmr_records.specs.Statements.{mark_removed as statement_of_mark};
-ghost use Rattle.dmr_records.specs.Statements.{prune_calls as statement_of_calls};
-ghost use Rattle.dmr_records.specs.Statements.{prune_carriers as statement_of_carriers};
-ghost use Rattle.dmr_records.specs.Statements.{prune_events as statement_of_events};
-ghost use Rattle.dmr_records.specs.Statements.{prune_terms as statement_of_terms};
 ghost use Rattle.dmr_records.specs.Statements.{put_call as statement_of_call};
 ghost use Rattle.dmr_records.specs.Statements.{put_carrier as statement_of_carrier};
 ghost use Rattle.dmr_records.specs.Statements.{put_event as statement_of_event};
@@ -20,12 +15,132 @@ ghost use Rattle.dmr_records.specs.Statements.{put_term as statement_of_term};
 
 use crate::events::EventRow;
 use crate::term_row::TermRow;
-use crate::values::{count, flag, number, number_or_null, outcome_or_null, size, word};
+use crate::values::{count, flag, number, number_or_null, outcome_or_null, size, time_in, word};
 use crate::words::{cause_word, kind_word};
 use dmr_keeper::{CarrierCounts, EndedCall, TermCounts, TermTime};
 use dmr_pdu::Address;
 use sqlite::types::ValueRef;
 use sqlite::{Alter, Error, Transaction};
+
+/// The version of the tables that this crate makes and reads.
+pub const VERSION: i64 = 2;
+
+/// The version of the tables that it carries over.
+pub const VERSION_BEFORE: i64 = 1;
+
+/// The statements that make the tables. `docs/RECORDS.md` describes them.
+pub const TABLES: &str = "\
+    CREATE TABLE schema_version (version INTEGER PRIMARY KEY) STRICT;\
+    CREATE TABLE terms (\
+    number INTEGER PRIMARY KEY, \
+    ended_ms INTEGER NOT NULL, \
+    tick_ms INTEGER NOT NULL, \
+    last_tick INTEGER NOT NULL, \
+    entries INTEGER NOT NULL, \
+    heard INTEGER NOT NULL, \
+    requests INTEGER NOT NULL, \
+    noise INTEGER NOT NULL, \
+    active INTEGER NOT NULL, \
+    polls INTEGER NOT NULL, \
+    ticks INTEGER NOT NULL, \
+    commands INTEGER NOT NULL, \
+    grants INTEGER NOT NULL, \
+    late_entries INTEGER NOT NULL, \
+    registrations INTEGER NOT NULL, \
+    refusals INTEGER NOT NULL, \
+    begun INTEGER NOT NULL, \
+    ended INTEGER NOT NULL, \
+    most_lines INTEGER NOT NULL) STRICT;\
+    CREATE TABLE calls (\
+    number INTEGER PRIMARY KEY, \
+    term INTEGER NOT NULL, \
+    carrier INTEGER NOT NULL, \
+    slot INTEGER NOT NULL, \
+    is_group INTEGER NOT NULL, \
+    source INTEGER NOT NULL, \
+    target INTEGER NOT NULL, \
+    began INTEGER NOT NULL, \
+    began_ms INTEGER NOT NULL, \
+    ended INTEGER NOT NULL, \
+    ended_ms INTEGER NOT NULL, \
+    cause TEXT NOT NULL, \
+    waited INTEGER) STRICT;\
+    CREATE TABLE events (\
+    number INTEGER PRIMARY KEY, \
+    term INTEGER NOT NULL, \
+    tick INTEGER NOT NULL, \
+    at_ms INTEGER NOT NULL, \
+    kind TEXT NOT NULL, \
+    carrier INTEGER, \
+    slot INTEGER, \
+    radio INTEGER, \
+    target INTEGER, \
+    channel INTEGER, \
+    reason INTEGER, \
+    reply TEXT) STRICT;\
+    CREATE TABLE carriers (\
+    term INTEGER NOT NULL, \
+    carrier INTEGER NOT NULL, \
+    polls INTEGER NOT NULL, \
+    heard INTEGER NOT NULL, \
+    noise INTEGER NOT NULL, \
+    active INTEGER NOT NULL, \
+    PRIMARY KEY (term, carrier)) STRICT;\
+    CREATE TABLE registrations (\
+    place INTEGER PRIMARY KEY, \
+    radio INTEGER NOT NULL) STRICT;\
+    CREATE TABLE removed (calls INTEGER, events INTEGER, terms INTEGER) STRICT;\
+    INSERT INTO removed (calls, events, terms) VALUES (0, 0, 0);\
+    INSERT INTO schema_version (version) VALUES (2)";
+
+/// Those that make them from the tables of the version before. No table can be given a column, so rows are copied.
+pub const CARRY_OVER: &str = "\
+    CREATE TABLE calls_before (\
+    number INTEGER PRIMARY KEY, \
+    term INTEGER NOT NULL, \
+    carrier INTEGER NOT NULL, \
+    slot INTEGER NOT NULL, \
+    is_group INTEGER NOT NULL, \
+    source INTEGER NOT NULL, \
+    target INTEGER NOT NULL, \
+    began INTEGER NOT NULL, \
+    began_ms INTEGER NOT NULL, \
+    ended INTEGER NOT NULL, \
+    ended_ms INTEGER NOT NULL, \
+    cause TEXT NOT NULL) STRICT;\
+    INSERT INTO calls_before (number, term, carrier, slot, is_group, source, target, \
+    began, began_ms, ended, ended_ms, cause) \
+    SELECT number, term, carrier, slot, is_group, source, target, \
+    began, began_ms, ended, ended_ms, cause FROM calls;\
+    DROP TABLE calls;\
+    CREATE TABLE calls (\
+    number INTEGER PRIMARY KEY, \
+    term INTEGER NOT NULL, \
+    carrier INTEGER NOT NULL, \
+    slot INTEGER NOT NULL, \
+    is_group INTEGER NOT NULL, \
+    source INTEGER NOT NULL, \
+    target INTEGER NOT NULL, \
+    began INTEGER NOT NULL, \
+    began_ms INTEGER NOT NULL, \
+    ended INTEGER NOT NULL, \
+    ended_ms INTEGER NOT NULL, \
+    cause TEXT NOT NULL, \
+    waited INTEGER) STRICT;\
+    INSERT INTO calls (number, term, carrier, slot, is_group, source, target, \
+    began, began_ms, ended, ended_ms, cause) \
+    SELECT number, term, carrier, slot, is_group, source, target, \
+    began, began_ms, ended, ended_ms, cause FROM calls_before;\
+    DROP TABLE calls_before;\
+    CREATE TABLE carriers (\
+    term INTEGER NOT NULL, \
+    carrier INTEGER NOT NULL, \
+    polls INTEGER NOT NULL, \
+    heard INTEGER NOT NULL, \
+    noise INTEGER NOT NULL, \
+    active INTEGER NOT NULL, \
+    PRIMARY KEY (term, carrier)) STRICT;\
+    UPDATE schema_version SET version = 2";
 
 const PUT_TERM: &str =
     "INSERT INTO terms (ended_ms, tick_ms, last_tick, entries, heard, requests, noise, active, \
@@ -48,20 +163,8 @@ const PUT_REGISTRATION: &str = "INSERT INTO registrations (place, radio) VALUES 
 
 const CUT_REGISTRATIONS: &str = "DELETE FROM registrations WHERE place > ?1";
 
-const MARK_REMOVED: &str = "UPDATE removed SET calls = (SELECT max(number) FROM calls) - ?1, \
-    events = (SELECT max(number) FROM events) - ?1, \
-    terms = (SELECT max(number) FROM terms) - ?1";
-
-const PRUNE_CALLS: &str = "DELETE FROM calls WHERE number <= (SELECT calls FROM removed)";
-
-const PRUNE_EVENTS: &str = "DELETE FROM events WHERE number <= (SELECT events FROM removed)";
-
-const PRUNE_TERMS: &str = "DELETE FROM terms WHERE number <= (SELECT terms FROM removed)";
-
-const PRUNE_CARRIERS: &str = "DELETE FROM carriers WHERE term <= (SELECT terms FROM removed)";
-
 /// Runs a statement, and does not say how many rows it changed.
-fn run<S: Alter>(
+pub fn run<S: Alter>(
     tx: &mut Transaction<'_, S>,
     text: &str,
     params: &[ValueRef<'_>],
@@ -138,9 +241,9 @@ pub fn put_call<S: Alter>(
             number(call.call.source.get()),
             number(call.call.target.get()),
             count(call.began),
-            count(term.time_of(call.began)),
+            time_in(&term, call.began),
             count(call.ended),
-            count(term.time_of(call.ended)),
+            time_in(&term, call.ended),
             word(cause_word(&call.cause)),
             count(call.waited),
         ],
@@ -164,7 +267,7 @@ pub fn put_event<S: Alter>(
         &[
             count(term.number),
             count(event.tick),
-            count(term.time_of(event.tick)),
+            time_in(&term, event.tick),
             word(kind_word(&event.kind)),
             number_or_null(event.carrier),
             number_or_null(event.slot),
@@ -224,54 +327,4 @@ pub fn cut_registrations<S: Alter>(tx: &mut Transaction<'_, S>, last: usize) -> 
     ensures keeps { Keeps S.Store tx.old.conn.now tx.new.conn.now }
 {
     run(tx, CUT_REGISTRATIONS, &[size(last)])
-}
-
-/// Notes up to which number the rows of each table are removed next, so that at most this many stay.
-pub fn mark_removed<S: Alter>(tx: &mut Transaction<'_, S>, most: u32) -> Result<(), Error>
-    ensures same_reference { tx.new.conn.ghost_name ≡ tx.old.conn.ghost_name }
-    ensures ran { RanAll S.Store (statement_of_mark most ∷ [])
-        tx.old.conn.now tx.new.conn.now result }
-    ensures keeps { Keeps S.Store tx.old.conn.now tx.new.conn.now }
-{
-    run(tx, MARK_REMOVED, &[number(most)])
-}
-
-/// Removes the calls up to the noted number.
-pub fn prune_calls<S: Alter>(tx: &mut Transaction<'_, S>) -> Result<(), Error>
-    ensures same_reference { tx.new.conn.ghost_name ≡ tx.old.conn.ghost_name }
-    ensures ran { RanAll S.Store (statement_of_calls ∷ [])
-        tx.old.conn.now tx.new.conn.now result }
-    ensures keeps { Keeps S.Store tx.old.conn.now tx.new.conn.now }
-{
-    run(tx, PRUNE_CALLS, &[])
-}
-
-/// Removes the events up to the noted number.
-pub fn prune_events<S: Alter>(tx: &mut Transaction<'_, S>) -> Result<(), Error>
-    ensures same_reference { tx.new.conn.ghost_name ≡ tx.old.conn.ghost_name }
-    ensures ran { RanAll S.Store (statement_of_events ∷ [])
-        tx.old.conn.now tx.new.conn.now result }
-    ensures keeps { Keeps S.Store tx.old.conn.now tx.new.conn.now }
-{
-    run(tx, PRUNE_EVENTS, &[])
-}
-
-/// Removes the terms up to the noted number.
-pub fn prune_terms<S: Alter>(tx: &mut Transaction<'_, S>) -> Result<(), Error>
-    ensures same_reference { tx.new.conn.ghost_name ≡ tx.old.conn.ghost_name }
-    ensures ran { RanAll S.Store (statement_of_terms ∷ [])
-        tx.old.conn.now tx.new.conn.now result }
-    ensures keeps { Keeps S.Store tx.old.conn.now tx.new.conn.now }
-{
-    run(tx, PRUNE_TERMS, &[])
-}
-
-/// Removes the counts of carriers in terms up to the noted number.
-pub fn prune_carriers<S: Alter>(tx: &mut Transaction<'_, S>) -> Result<(), Error>
-    ensures same_reference { tx.new.conn.ghost_name ≡ tx.old.conn.ghost_name }
-    ensures ran { RanAll S.Store (statement_of_carriers ∷ [])
-        tx.old.conn.now tx.new.conn.now result }
-    ensures keeps { Keeps S.Store tx.old.conn.now tx.new.conn.now }
-{
-    run(tx, PRUNE_CARRIERS, &[])
 }

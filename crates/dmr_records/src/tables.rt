@@ -1,4 +1,4 @@
-//! The tables, and their version.
+//! How a database gets the tables, and which version it has.
 
 ghost use Rattle.std.specs.Prelude.{◌≡◌, ◌≢◌, false, pos, IfErr, IfOk, IsTrue, OnErr, OnOk};
 ghost use Rattle.sqlite.specs.Held.{state};
@@ -8,135 +8,15 @@ ghost use Rattle.dmr_records.specs.Tables.{AreMade, AreNotPrepared, ArePrepared,
 ghost use Rattle.dmr_records.specs.Tables.{FindsNoVersion, FindsVersion, HasNoVersion, HasVersion};
 ghost use Rattle.dmr_records.specs.Tables.{IsOtherVersion, MayLeaveTables, MayPrepare};
 ghost use Rattle.dmr_records.specs.Tables.{ShowsNoNumber, ShowsNumber};
-ghost use Rattle.dmr_records.specs.Tables.{carry_over as statements_of_carrying};
-ghost use Rattle.dmr_records.specs.Tables.{tables as statements_of_tables};
+ghost use Rattle.dmr_records.specs.Statements.{version, version_before};
 
 use crate::fault::{FileFault, fault_of};
+use crate::rows::{CARRY_OVER, TABLES, VERSION, VERSION_BEFORE};
 use sqlite::{Alter, Connection, Error, Transaction};
-
-/// The version of the tables that this crate makes and reads.
-pub const VERSION: i64 = 2;
-
-/// The version of the tables that it carries over.
-const VERSION_BEFORE: i64 = 1;
 
 const COUNT_TABLES: &str = "SELECT count(*) FROM sqlite_schema";
 
 const SELECT_VERSION: &str = "SELECT max(version) FROM schema_version";
-
-/// The tables of version 2. `docs/RECORDS.md` describes them.
-const TABLES: &str = "\
-    CREATE TABLE schema_version (version INTEGER PRIMARY KEY) STRICT;\
-    CREATE TABLE terms (\
-    number INTEGER PRIMARY KEY, \
-    ended_ms INTEGER NOT NULL, \
-    tick_ms INTEGER NOT NULL, \
-    last_tick INTEGER NOT NULL, \
-    entries INTEGER NOT NULL, \
-    heard INTEGER NOT NULL, \
-    requests INTEGER NOT NULL, \
-    noise INTEGER NOT NULL, \
-    active INTEGER NOT NULL, \
-    polls INTEGER NOT NULL, \
-    ticks INTEGER NOT NULL, \
-    commands INTEGER NOT NULL, \
-    grants INTEGER NOT NULL, \
-    late_entries INTEGER NOT NULL, \
-    registrations INTEGER NOT NULL, \
-    refusals INTEGER NOT NULL, \
-    begun INTEGER NOT NULL, \
-    ended INTEGER NOT NULL, \
-    most_lines INTEGER NOT NULL) STRICT;\
-    CREATE TABLE calls (\
-    number INTEGER PRIMARY KEY, \
-    term INTEGER NOT NULL, \
-    carrier INTEGER NOT NULL, \
-    slot INTEGER NOT NULL, \
-    is_group INTEGER NOT NULL, \
-    source INTEGER NOT NULL, \
-    target INTEGER NOT NULL, \
-    began INTEGER NOT NULL, \
-    began_ms INTEGER NOT NULL, \
-    ended INTEGER NOT NULL, \
-    ended_ms INTEGER NOT NULL, \
-    cause TEXT NOT NULL, \
-    waited INTEGER) STRICT;\
-    CREATE TABLE events (\
-    number INTEGER PRIMARY KEY, \
-    term INTEGER NOT NULL, \
-    tick INTEGER NOT NULL, \
-    at_ms INTEGER NOT NULL, \
-    kind TEXT NOT NULL, \
-    carrier INTEGER, \
-    slot INTEGER, \
-    radio INTEGER, \
-    target INTEGER, \
-    channel INTEGER, \
-    reason INTEGER, \
-    reply TEXT) STRICT;\
-    CREATE TABLE carriers (\
-    term INTEGER NOT NULL, \
-    carrier INTEGER NOT NULL, \
-    polls INTEGER NOT NULL, \
-    heard INTEGER NOT NULL, \
-    noise INTEGER NOT NULL, \
-    active INTEGER NOT NULL, \
-    PRIMARY KEY (term, carrier)) STRICT;\
-    CREATE TABLE registrations (\
-    place INTEGER PRIMARY KEY, \
-    radio INTEGER NOT NULL) STRICT;\
-    CREATE TABLE removed (calls INTEGER, events INTEGER, terms INTEGER) STRICT;\
-    INSERT INTO removed (calls, events, terms) VALUES (0, 0, 0);\
-    INSERT INTO schema_version (version) VALUES (2)";
-
-/// The tables of version 2 from those of version 1. No table can be given a column, so the rows of the calls are copied.
-const CARRY_OVER: &str = "\
-    CREATE TABLE calls_before (\
-    number INTEGER PRIMARY KEY, \
-    term INTEGER NOT NULL, \
-    carrier INTEGER NOT NULL, \
-    slot INTEGER NOT NULL, \
-    is_group INTEGER NOT NULL, \
-    source INTEGER NOT NULL, \
-    target INTEGER NOT NULL, \
-    began INTEGER NOT NULL, \
-    began_ms INTEGER NOT NULL, \
-    ended INTEGER NOT NULL, \
-    ended_ms INTEGER NOT NULL, \
-    cause TEXT NOT NULL) STRICT;\
-    INSERT INTO calls_before (number, term, carrier, slot, is_group, source, target, \
-    began, began_ms, ended, ended_ms, cause) \
-    SELECT number, term, carrier, slot, is_group, source, target, \
-    began, began_ms, ended, ended_ms, cause FROM calls;\
-    DROP TABLE calls;\
-    CREATE TABLE calls (\
-    number INTEGER PRIMARY KEY, \
-    term INTEGER NOT NULL, \
-    carrier INTEGER NOT NULL, \
-    slot INTEGER NOT NULL, \
-    is_group INTEGER NOT NULL, \
-    source INTEGER NOT NULL, \
-    target INTEGER NOT NULL, \
-    began INTEGER NOT NULL, \
-    began_ms INTEGER NOT NULL, \
-    ended INTEGER NOT NULL, \
-    ended_ms INTEGER NOT NULL, \
-    cause TEXT NOT NULL, \
-    waited INTEGER) STRICT;\
-    INSERT INTO calls (number, term, carrier, slot, is_group, source, target, \
-    began, began_ms, ended, ended_ms, cause) \
-    SELECT number, term, carrier, slot, is_group, source, target, \
-    began, began_ms, ended, ended_ms, cause FROM calls_before;\
-    DROP TABLE calls_before;\
-    CREATE TABLE carriers (\
-    term INTEGER NOT NULL, \
-    carrier INTEGER NOT NULL, \
-    polls INTEGER NOT NULL, \
-    heard INTEGER NOT NULL, \
-    noise INTEGER NOT NULL, \
-    active INTEGER NOT NULL, \
-    PRIMARY KEY (term, carrier)) STRICT;\
-    UPDATE schema_version SET version = 2";
 
 /// The number with which the first row of a query's answer begins.
 fn read_number<S: Alter>(tx: &mut Transaction<'_, S>, query: &str) -> Result<i64, Error>
@@ -185,8 +65,8 @@ fn find_version<S: Alter>(conn: &mut Connection<S>) -> Result<Option<i64>, Error
 
 /// Accepts this crate's version, of those that are not carried over.
 fn check_version(found: i64) -> Result<(), FileFault>
-    requires { found ≢ pos 1 }
-    ensures known { OnOk result (found ≡ pos 2) }
+    requires { found ≢ pos version_before }
+    ensures known { OnOk result (found ≡ pos version) }
     ensures other { IfErr result (IsOtherVersion found) }
 {
     if found == VERSION {
@@ -216,38 +96,6 @@ fn commit_batch<S: Alter>(conn: &mut Connection<S>, text: &str) -> Result<(), Er
     tx.commit()
 }
 
-/// Makes the tables in a database that has none, in one transaction.
-fn make_tables<S: Alter>(conn: &mut Connection<S>) -> Result<(), Error>
-    requires idle { conn.old.in_transaction ≡ false }
-    ensures idle { conn.new.in_transaction ≡ false }
-    ensures made { HasCleanDisk (state S.Store conn.new)
-        → OnOk result (AreMade S.Store statements_of_tables conn.old conn.new) }
-    ensures not_made { HasCleanDisk (state S.Store conn.new)
-        → IfErr result (FailsToMake S.Store statements_of_tables conn.old conn.new) }
-    ensures nothing { HasCleanDisk (state S.Store conn.new)
-        → OnErr result (KeepsCommit (state S.Store conn.old) (state S.Store conn.new)) }
-    ensures crash { Survives (state S.Store conn.old) (state S.Store conn.new)
-        (MayLeaveTables S.Store statements_of_tables conn.old) }
-{
-    commit_batch(conn, TABLES)
-}
-
-/// Makes the tables from those of the version before, in one transaction.
-fn carry_over<S: Alter>(conn: &mut Connection<S>) -> Result<(), Error>
-    requires idle { conn.old.in_transaction ≡ false }
-    ensures idle { conn.new.in_transaction ≡ false }
-    ensures made { HasCleanDisk (state S.Store conn.new)
-        → OnOk result (AreMade S.Store statements_of_carrying conn.old conn.new) }
-    ensures not_made { HasCleanDisk (state S.Store conn.new)
-        → IfErr result (FailsToMake S.Store statements_of_carrying conn.old conn.new) }
-    ensures nothing { HasCleanDisk (state S.Store conn.new)
-        → OnErr result (KeepsCommit (state S.Store conn.old) (state S.Store conn.new)) }
-    ensures crash { Survives (state S.Store conn.old) (state S.Store conn.new)
-        (MayLeaveTables S.Store statements_of_carrying conn.old) }
-{
-    commit_batch(conn, CARRY_OVER)
-}
-
 /// Makes the tables in a database that has none. Those of the version before are carried over: their rows stay, and what
 /// they do not say is NULL. That is done in one transaction. Of any other database, checks the version.
 ///
@@ -271,13 +119,13 @@ pub fn prepare_tables<S: Alter>(conn: &mut Connection<S>) -> Result<(), FileFaul
         (MayPrepare S.Store conn.old) }
 {
     match find_version(conn) {
-        Ok(None) => match make_tables(conn) {
+        Ok(None) => match commit_batch(conn, TABLES) {
             Ok(()) => Ok(()),
             Err(error) => Err(fault_of(error)),
         },
         Ok(Some(found)) => {
             if found == VERSION_BEFORE {
-                match carry_over(conn) {
+                match commit_batch(conn, CARRY_OVER) {
                     Ok(()) => Ok(()),
                     Err(error) => Err(fault_of(error)),
                 }

@@ -5,9 +5,10 @@ ghost use Rattle.sqlite.specs.Value.{owned};
 ghost use Rattle.sqlite.specs.Values.{bound_value, or_null};
 ghost use Rattle.sqlite.specs.declared.types.Value.TheVariants.{Text as Words};
 ghost use Rattle.dmr_records.specs.Statements.{count as as_count, flag as as_flag};
-ghost use Rattle.dmr_records.specs.Statements.{number as as_number, stored};
+ghost use Rattle.dmr_records.specs.Statements.{number as as_number, stored, time_in as as_time_in};
 ghost use Rattle.dmr_records.specs.Words.{outcome_word as word_of_outcome};
 
+use crate::term_row::TermRow;
 use crate::words::outcome_word;
 use dmr_keeper::Outcome;
 use sqlite::types::ValueRef;
@@ -36,6 +37,13 @@ pub fn size(value: usize) -> ValueRef<'static>
     ensures { bound_value (owned result) ≡ as_count value }
 {
     count(value as u64)
+}
+
+/// The time of day of a tick of the term.
+pub fn time_in(term: &TermRow, tick: u64) -> ValueRef<'static>
+    ensures { bound_value (owned result) ≡ as_time_in term.now tick }
+{
+    count(term.time_of(tick))
 }
 
 /// The number of a carrier, a slot, an address, a channel or a reason.

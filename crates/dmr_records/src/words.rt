@@ -33,10 +33,7 @@ pub fn kind_word(kind: &EventKind) -> &'static str
         EventKind::WasLost => "was_lost",
         EventKind::JoinedCall => "joined_call",
         EventKind::Refused => "refused",
-        EventKind::DropCommand => "drop_command",
-        EventKind::EndCommand => "end_command",
-        EventKind::MoveCommand => "move_command",
-        EventKind::StayCommand => "stay_command",
+        EventKind::Command(kind) => kind.row().event,
     }
 }
 

@@ -2,8 +2,6 @@
 
 ghost use Rattle.std.specs.Prelude.{◌≡◌};
 ghost use Rattle.dmr_records.specs.Ran.{Keeps, RanAll};
-ghost use Rattle.dmr_records.specs.Statements.{prune as statements_of_pruning};
-ghost use Rattle.dmr_records.specs.Statements.{prune_after as statements_after};
 ghost use Rattle.dmr_records.specs.Statements.{put_calls as statements_of_calls};
 ghost use Rattle.dmr_records.specs.Statements.{put_carriers as statements_of_carriers};
 ghost use Rattle.dmr_records.specs.Statements.{put_changes as statements_of_changes};
@@ -16,9 +14,9 @@ ghost use Rattle.dmr_records.specs.Written.{RunsTerm};
 ghost use Rattle.sqlite.specs.Held.{state};
 
 use crate::events::{event_of_change, event_of_note};
+use crate::pruning::prune_after;
 use crate::rows::{
-    cut_registrations, mark_removed, prune_calls, prune_carriers, prune_events, prune_terms,
-    put_call, put_carrier, put_event, put_registration, put_term,
+    cut_registrations, put_call, put_carrier, put_event, put_registration, put_term,
 };
 use crate::term_row::TermRow;
 use dmr_keeper::{CarrierCounts, Change, EndedCall, Note, Records, TimedRecords};
@@ -117,34 +115,6 @@ fn put_radios<S: Alter>(tx: &mut Transaction<'_, S>, radios: &[Address]) -> Resu
 {
     put_registrations(tx, radios)?;
     cut_registrations(tx, radios.len())
-}
-
-/// Removes the oldest calls, events and terms, so that at most this many of each stay, and the counts of carriers in
-/// terms that are removed.
-fn prune<S: Alter>(tx: &mut Transaction<'_, S>, most: u32) -> Result<(), Error>
-    ensures same_reference { tx.new.conn.ghost_name ≡ tx.old.conn.ghost_name }
-    ensures ran { RanAll S.Store (statements_of_pruning most)
-        tx.old.conn.now tx.new.conn.now result }
-    ensures keeps { Keeps S.Store tx.old.conn.now tx.new.conn.now }
-{
-    mark_removed(tx, most)?;
-    prune_calls(tx)?;
-    prune_events(tx)?;
-    prune_terms(tx)?;
-    prune_carriers(tx)
-}
-
-/// Removes the oldest rows after the term with this number, if it is a multiple of `most / 1000 + 1`.
-fn prune_after<S: Alter>(tx: &mut Transaction<'_, S>, most: u32, number: u64) -> Result<(), Error>
-    ensures same_reference { tx.new.conn.ghost_name ≡ tx.old.conn.ghost_name }
-    ensures ran { RanAll S.Store (statements_after most number)
-        tx.old.conn.now tx.new.conn.now result }
-    ensures keeps { Keeps S.Store tx.old.conn.now tx.new.conn.now }
-{
-    if number % (u64::from(most) / 1000 + 1) == 0 {
-        return prune(tx, most);
-    }
-    Ok(())
 }
 
 /// Writes what belongs to the row of its term, and the registered radios; then removes the oldest rows, if it is time

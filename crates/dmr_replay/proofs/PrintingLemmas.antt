@@ -51,19 +51,19 @@ module _ (plan : Settings) (put_out : ℕ → List ℕ) (number : ℕ) where
       ∙ ap (λ (before : List ℕ). before ++ (line number ++ [])) (flat_map-map (λ x. x) line (range_with_len 0 number))
       ∙ ap (λ (after : List ℕ). lines_to plan put_out number ++ after) (append-nil (line number))
 
-  with_or_without : (b : Bool) → has_number_in plan.carriers number ≡ b
+  with_or_without : (b : Bool) → has_number_in plan.lists.carriers number ≡ b
       → lines_to plan put_out (number + 1) ≡ lines_to plan put_out number ++ (if b then carrier_line number (put_out number) else [])
   with_or_without b has = lines_more ∙ ap (λ (c : Bool). lines_to plan put_out number ++ (if c then carrier_line number (put_out number) else [])) has
 
   -- the plan has the number, and its line is printed
-  pub line_printed : (old before after : Option (List ℕ)) → Appends old before (lines_to plan put_out number) → has_number_in plan.carriers number ≡ true
+  pub line_printed : (old before after : Option (List ℕ)) → Appends old before (lines_to plan put_out number) → has_number_in plan.lists.carriers number ≡ true
       → Appends before after (carrier_line number (put_out number)) → Appends old after (lines_to plan put_out (number + 1))
   line_printed old before after printed there more =
       subst (Appends old after) (sym (with_or_without true there))
       (Appends-trans old before after (lines_to plan put_out number) (carrier_line number (put_out number)) printed more)
 
   -- the plan does not have the number
-  pub passed_over : (old before : Option (List ℕ)) → Appends old before (lines_to plan put_out number) → has_number_in plan.carriers number ≡ false
+  pub passed_over : (old before : Option (List ℕ)) → Appends old before (lines_to plan put_out number) → has_number_in plan.lists.carriers number ≡ false
       → Appends old before (lines_to plan put_out (number + 1))
   passed_over old before printed missing =
       subst (Appends old before) (sym (with_or_without false missing ∙ append-nil (lines_to plan put_out number))) printed

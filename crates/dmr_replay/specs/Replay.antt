@@ -32,7 +32,8 @@ carrier_line number octets =
 -- the line of a carrier of the plan; empty if the plan does not have the number
 abbrev pub line_of_number : Settings → (ℕ → List ℕ) → ℕ → List ℕ
 line_of_number plan octets_written number =
-    if has_number_in plan.carriers number then carrier_line number (octets_written number) else []
+    if has_number_in plan.lists.carriers number then carrier_line number (octets_written number)
+    else []
 
 -- a line for each carrier of the plan, by number
 abbrev pub lines_to : Settings → (ℕ → List ℕ) → ℕ → List ℕ

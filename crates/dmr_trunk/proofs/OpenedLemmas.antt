@@ -58,7 +58,7 @@ one_station plan numbers old new number station has is same are =
     subst P (sym has) (subst Q (sym same) (stations_more plan numbers old number station are is))
 
 -- a list with the station at its end, if it could be appended
-pub station_then : {T E : Type 0} (plan : Settings) (old new : List (Station (PortState NoWitness) OpenGate)) (number : ℕ) (row : CarrierRow) (station : Station (PortState NoWitness) OpenGate) (result : Result T E) → Some row ≡ row_with plan.carriers number → true ≡ has_carrier plan number → IsNewStation plan number row.lpcn station → OnOk result (new ≡ old ++ station ∷ [])
+pub station_then : {T E : Type 0} (plan : Settings) (old new : List (Station (PortState NoWitness) OpenGate)) (number : ℕ) (row : CarrierRow) (station : Station (PortState NoWitness) OpenGate) (result : Result T E) → Some row ≡ row_with plan.lists.carriers number → true ≡ has_carrier plan number → IsNewStation plan number row.lpcn station → OnOk result (new ≡ old ++ station ∷ [])
     → OnOk result ((numbers : List ℕ) → AreNewStations plan numbers old → AreNewStations plan (with_number plan numbers number) new)
 station_then plan old new number row station (Ok done) found has is same =
     let P : Option CarrierRow → Type 0 = λ it. IsSomeAnd it (λ (r : CarrierRow). IsNewStation plan number r.lpcn station) in
@@ -73,7 +73,7 @@ stations_by_number : (plan : Settings) (numbers : List ℕ) (stations : List (St
     → map (λ (s : StationState). carrier_of_peer s.link.who) (states_of (λ port. None) (λ gate. None) stations) ≡ map (λ (n : ℕ). Some n) numbers
 stations_by_number plan [] [] are = refl
 stations_by_number plan (n ∷ numbers) (station ∷ stations) are =
-    let here = carrier_of_new plan n (row_with plan.carriers n) station are.0 in
+    let here = carrier_of_new plan n (row_with plan.lists.carriers n) station are.0 in
     let rest = stations_by_number plan numbers stations are.1 in
     (λ i. here i ∷ rest i)
 stations_by_number plan [] (s ∷ stations) are = absurd are
@@ -86,7 +86,8 @@ pub at_ok : {A E : Type 0} (P : A → Type 0) (r : Result A E) (x : A) → r ≡
 at_ok P r x is given = subst (λ s. IfOk s P) is given
 
 pub first_fits : (plan : Settings) (facts : Facts) (site : SiteState) (stations : List (Station (PortState NoWitness) OpenGate)) → IsPlan plan → site ≡ record { plan = plan; facts = facts } → AreNewStations plan (carrier_numbers plan) stations
-    → AreStations site.plan (states_of (λ port. None) (λ gate. None) stations) × IsLimit site.plan.term_entries
+    → AreStations site.plan (states_of (λ port. None) (λ gate. None) stations) × IsLimit site.plan.serving.term_entries
 first_fits plan facts site stations whole same are =
-    let P : Settings → Type 0 = λ p. AreStations p (states_of (λ port. None) (λ gate. None) stations) × IsLimit p.term_entries in
-    subst P (sym (ap (λ (s : SiteState). s.plan) same)) (stations_by_number plan (carrier_numbers plan) stations are, whole.term_entries)
+    let P : Settings → Type 0 = λ p. AreStations p (states_of (λ port. None) (λ gate. None) stations) × IsLimit p.serving.term_entries in
+    subst P (sym (ap (λ (s : SiteState). s.plan) same))
+    (stations_by_number plan (carrier_numbers plan) stations are, whole.serving.term_entries)

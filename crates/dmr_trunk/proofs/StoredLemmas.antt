@@ -17,7 +17,7 @@ use Rattle.dmr_trunk.specs.Stored.{IsRecordOf, HasMadeIfWanted, carried_after_al
 -- ---- records that are made
 
 -- with the time of the end of the term
-pub is_record_of : (plan : Settings) (before : Carry) (journal : List Entry) (ended : ℕ) (made : Option TimedRecords) → IsSomeAnd made (λ (term : TimedRecords). AreRecords plan before journal term.records) → IsSomeAnd made (λ (term : TimedRecords). term.time ≡ record { ended = ended; tick_ms = plan.tick_ms }) → IsSomeAnd made (IsRecordOf plan before journal)
+pub is_record_of : (plan : Settings) (before : Carry) (journal : List Entry) (ended : ℕ) (made : Option TimedRecords) → IsSomeAnd made (λ (term : TimedRecords). AreRecords plan before journal term.records) → IsSomeAnd made (λ (term : TimedRecords). term.time ≡ record { ended = ended; tick_ms = plan.serving.tick_ms }) → IsSomeAnd made (IsRecordOf plan before journal)
 is_record_of plan before journal ended (Some term) are at = (are, ap (λ (time : TermTime). time.tick_ms) at)
 is_record_of plan before journal ended None are at = are
 

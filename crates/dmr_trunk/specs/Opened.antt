@@ -27,7 +27,7 @@ use Rattle.dmr_trunk.specs.declared.pacer.ClockPacer.{ClockPacer}
 -- sees its answers
 abbrev pub IsNewPort : Settings → Whose → PortState NoWitness → Type 0
 IsNewPort plan owner port =
-    port ≡ empty_port (record { whose = owner; greatest = greatest_of plan; silence = plan.silence })
+    port ≡ empty_port (record { whose = owner; greatest = greatest_of plan; silence = plan.serving.silence })
     (record {
       is_open = false;
       waiting = 0;
@@ -55,7 +55,7 @@ pub record IsNewStation (plan : Settings) (number lpcn : ℕ)
 -- the station of the plan's carrier with this number, as it is opened, on the channel of the carrier's row
 abbrev pub IsNewStationOf : Settings → ℕ → Station (PortState NoWitness) OpenGate → Type 0
 IsNewStationOf plan number station =
-    IsSomeAnd (row_with plan.carriers number)
+    IsSomeAnd (row_with plan.lists.carriers number)
     (λ (row : CarrierRow). IsNewStation plan number row.lpcn station)
 
 -- a station for each carrier with one of these numbers, in their order
@@ -83,13 +83,13 @@ pub record IsFirstService {R : Type 0} (plan : Settings) (radios : List ℕ)
   -- a station for each carrier of the plan, by number
   pub stations : AreNewStations plan (carrier_numbers plan) service.stations.items
   -- the clock, which was not asked yet
-  pub ticks : service.pacer.ticks ≡ record { tick = plan.tick_ms * 1000000; from = None }
+  pub ticks : service.pacer.ticks ≡ record { tick = plan.serving.tick_ms * 1000000; from = None }
   pub console : IsNewConsole plan service.console
 
 -- a term of the program begins so. Its ports, its gates and its clock report no record
 abbrev pub start_of : {P G T C : Type 0} → Service P G T C → Start
 start_of service = start_at (λ port. None) (λ gate. None) (λ pacer. None) (λ port. None)
-    service.site.plan.term_entries service
+    service.site.plan.serving.term_entries service
 
 -- ---- on the way
 

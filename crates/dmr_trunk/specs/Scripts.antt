@@ -11,8 +11,8 @@ use Rattle.dmr_trunk.specs.declared.script.RecordingFile.{RecordingFile}
 use Rattle.dmr_trunk.specs.declared.script.ScriptFault.{ScriptFault}
 use Rattle.dmr_trunk.specs.declared.script.ScriptFault.TheVariants.{Exists, CannotMake, Long}
 use Rattle.dmr_trunk.specs.declared.script.ScriptFault.TheVariants.{Full, NotWritten, Removed}
-use Rattle.dmr_trunk.specs.declared.scripted.Ending.{Ending}
-use Rattle.dmr_trunk.specs.declared.scripted.Ending.TheVariants.{NotRecorded, Refused}
+use Rattle.dmr_trunk.specs.declared.scripted.RecordingEnd.{RecordingEnd}
+use Rattle.dmr_trunk.specs.declared.scripted.RecordingEnd.TheVariants.{NotRecorded, Refused}
 use Rattle.dmr_trunk.specs.declared.scripted.Recording.{Recording}
 
 -- between two moments these octets were appended, and no others. So if the script reports at the second moment, it has
@@ -52,13 +52,13 @@ abbrev pub lines_of : Settings → List Event → List ℕ
 lines_of plan events = text_of (inputs_of_events plan events)
 
 -- the script refuses lines, and so the recording ends
-abbrev pub IsRefusal : (ScriptFault → Type 0) → Ending → Type 0
+abbrev pub IsRefusal : (ScriptFault → Type 0) → RecordingEnd → Type 0
 IsRefusal refuses (NotRecorded fault) = ⊥
 IsRefusal refuses (Refused fault) = refuses fault
 
 -- why a recording ends with these events. One of them cannot be recorded, and this is the first; or there is no memory
 -- for their lines; or the script refuses the lines
-abbrev pub IsEnding : (List ℕ → ScriptFault → Type 0) → Settings → List Bool → List Event → Ending → Type 0
+abbrev pub IsEnding : (List ℕ → ScriptFault → Type 0) → Settings → List Bool → List Event → RecordingEnd → Type 0
 IsEnding refuses plan up events (NotRecorded fault) =
     (fault ≡ OutOfMemory) ⊎ IsFirstFault plan up 0 events fault
 IsEnding refuses plan up events (Refused fault) = refuses (lines_of plan events) fault
@@ -87,8 +87,8 @@ BeginsIfAsked appended refuses plan radios (Some script) recording =
 -- appended; otherwise nothing was. A recording that ends now has a reason among these events. One that had ended before
 -- keeps its reason
 pub record HasAppended (before : Option (List ℕ)) (refuses : List ℕ → ScriptFault → Type 0)
-    (plan : Settings) (up : List Bool) (old : Option Ending) (events : List Event)
-    (after : Option (List ℕ)) (up_then : List Bool) (new : Option Ending) : Type 0 where
+    (plan : Settings) (up : List Bool) (old : Option RecordingEnd) (events : List Event)
+    (after : Option (List ℕ)) (up_then : List Bool) (new : Option RecordingEnd) : Type 0 where
   pub recordable : new ≡ None → AreRecordable plan up events
   pub lines : new ≡ None → Appends before (lines_of plan events) after
   pub carriers : new ≡ None → up_then ≡ up_after_all up events

@@ -57,7 +57,7 @@ HaveStoppedServing kept refuses start terms done fault seen seen_then carried fi
 abbrev pub start_in_row : {P G T C : Type 0} → (P → Option (List Answer)) → (G → Option (List Passage))
     → (T → Option Paced) → (C → Option (List Answer)) → Service P G T C → Service P G T C → Start
 start_in_row reported passed paced of_console first service =
-    start_at reported passed paced of_console first.site.plan.term_entries service
+    start_at reported passed paced of_console first.site.plan.serving.term_entries service
 
 -- what became of terms that were asked for, with this service, observer, and books: all have run, and a service is left;
 -- or they stopped. The functions are what the ports, the gates, the pacer, the observer and the store report. Only the

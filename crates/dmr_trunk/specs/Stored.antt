@@ -22,7 +22,7 @@ use Rattle.dmr_trunk.specs.declared.row.Books.{Books}
 -- day comes from the clock
 abbrev pub IsRecordOf : Settings → Carry → List Entry → TimedRecords → Type 0
 IsRecordOf plan before journal term =
-    AreRecords plan before journal term.records × (term.time.tick_ms ≡ plan.tick_ms)
+    AreRecords plan before journal term.records × (term.time.tick_ms ≡ plan.serving.tick_ms)
 
 -- what is carried to the first term of a site with these radios, if the store asks for records
 abbrev pub carried_if_wanted : Bool → List ℕ → Option Carry

@@ -1,6 +1,6 @@
 //! The store with the records that it is to keep next: here, or with the thread that writes.
 
-use dmr_keeper::{KeepFault, Keeper, Outbox};
+use dmr_keeper::{KeepFault, Keeper, RecordQueue};
 use std::snapshot::Snapshot;
 use std::thread::{Promise, PromisedHandle};
 
@@ -10,7 +10,7 @@ pub struct Keeping<K> {
     /// The store.
     pub keeper: K,
     /// The records, oldest term first.
-    pub outbox: Outbox,
+    pub outbox: RecordQueue,
     /// Why the store refused records the last time. `None` if it refused none.
     pub fault: Option<KeepFault>,
 }

@@ -8,7 +8,7 @@ ghost use Rattle.dmr_trunk.specs.Stored.{ArePassedOn, GoOn, IsAtEnd, held, is_id
 
 use crate::holding::{HandOver, Keeping, Writer};
 use crate::notes::Notes;
-use dmr_keeper::{KeepFault, Keeper, Outbox, TimedRecords};
+use dmr_keeper::{KeepFault, Keeper, RecordQueue, TimedRecords};
 use log::Log;
 use std::snapshot::Snapshot;
 use std::sync::Wait;
@@ -54,7 +54,7 @@ impl<K: Keeper + Drop> Keeping<K> {
 #[derive(Drop)]
 pub struct Waiting {
     /// The records, oldest term first.
-    pub outbox: Outbox,
+    pub outbox: RecordQueue,
     /// Why the store last refused records, as far as it was noted.
     noted: Option<KeepFault>,
     /// Of how many terms the records were lost since a note last said so.
@@ -63,7 +63,7 @@ pub struct Waiting {
 
 impl Waiting {
     /// Begins with no records.
-    pub fn new(outbox: Outbox) -> Waiting
+    pub fn new(outbox: RecordQueue) -> Waiting
         ensures { result.outbox ≡ outbox }
     {
         Waiting {
@@ -97,7 +97,7 @@ impl Waiting {
 
     /// Moves all records to the store's. They come after those that it refused. If there is no room for all, the oldest
     /// are lost.
-    fn move_to<R: Log>(&mut self, outbox: &mut Outbox, notes: &mut Notes<'_, R>)
+    fn move_to<R: Log>(&mut self, outbox: &mut RecordQueue, notes: &mut Notes<'_, R>)
         ensures moved { outbox.new ≡ newest (outbox.old ++ self.old.outbox) }
         ensures none { self.new.outbox ≡ [] }
     {

@@ -248,7 +248,7 @@ fn open_pacer<'a, R: Net + Log + Clock>(
     plan: &Plan,
 ) -> Result<ClockPacer<'a, R>, NotServed>
     ensures { IfOk result
-        (λ pacer. pacer.ticks ≡ record { tick = plan.now.tick_ms * 1000000; from = None }) }
+        (λ pacer. pacer.ticks ≡ record { tick = plan.now.serving.tick_ms * 1000000; from = None }) }
 {
     let Some(poll) = polls.polls.pop() else {
         return Err(NotServed::NoPoll);
@@ -274,8 +274,8 @@ fn open_ports<'a, R: Net + Log + Clock>(
     polls: &mut Polls<'a>,
     plan: &Plan,
 ) -> Result<Opened<'a, R>, NotServed>
-    ensures ticks { IfOk result
-        (λ opened. opened.pacer.ticks ≡ record { tick = plan.now.tick_ms * 1000000; from = None }) }
+    ensures ticks { IfOk result (λ opened. opened.pacer.ticks
+        ≡ record { tick = plan.now.serving.tick_ms * 1000000; from = None }) }
     ensures stations { IfOk result
         (λ opened. AreNewStations plan.now (carrier_numbers plan.now) opened.stations.items) }
     ensures console { IfOk result (λ opened. IsNewConsole plan.now opened.console) }

@@ -8,7 +8,7 @@ use crate::clock::nanoseconds;
 use crate::notes::Notes;
 use crate::wakers::ClockWait;
 use dmr_desk::{Pace, Pacer};
-use dmr_port::{NoteLimit, Verdict};
+use dmr_port::{NoteLimit, NoteVerdict};
 use log::Log;
 use std::thread;
 use std::time::{Clock, Duration};
@@ -51,12 +51,12 @@ impl<'a, R: Clock + Log> ClockPacer<'a, R> {
     {
         let milliseconds = late / MILLISECOND;
         match self.limit.count(now / MILLISECOND) {
-            Verdict::Write => self.notes.clock_delayed(milliseconds),
-            Verdict::WriteAfter(count) => {
+            NoteVerdict::Write => self.notes.clock_delayed(milliseconds),
+            NoteVerdict::WriteAfter(count) => {
                 self.notes.more(count, "the clock");
                 self.notes.clock_delayed(milliseconds);
             }
-            Verdict::Drop => {}
+            NoteVerdict::Drop => {}
         }
     }
 

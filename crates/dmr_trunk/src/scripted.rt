@@ -21,7 +21,7 @@ use std::alloc::Global;
 
 /// Why a recording ended.
 #[derive(Clone, Copy, Debug, PartialEq, Eq)]
-pub enum Ending {
+pub enum RecordingEnd {
     /// An event cannot be recorded, or memory ran out.
     NotRecorded(RecordingFault),
     /// The script refused lines.
@@ -35,7 +35,7 @@ pub struct Recording<'a, W, R> {
     plan: Plan,
     up: Carriers,
     script: W,
-    ending: Option<Ending>,
+    ending: Option<RecordingEnd>,
     notes: Notes<'a, R>,
 }
 
@@ -87,7 +87,7 @@ impl<'a, W: Script, R: Log> Recording<'a, W, R> {
     }
 
     /// Appends the session in which radios register. Without radios it is empty. The error says why the recording ends.
-    fn append_restored(&mut self, radios: &[Address]) -> Result<(), Ending>
+    fn append_restored(&mut self, radios: &[Address]) -> Result<(), RecordingEnd>
         ensures same { (self.new.plan ≡ self.old.plan) × (self.new.up ≡ self.old.up)
             × (self.new.ending ≡ self.old.ending) }
         ensures appended { OnOk result (Appends (W.appended self.old.script)
@@ -98,25 +98,25 @@ impl<'a, W: Script, R: Log> Recording<'a, W, R> {
     {
         match lines_at_start(self.alloc, &self.plan, radios) {
             Ok(text) => self.append(text.as_str()),
-            Err(fault) => Err(Ending::NotRecorded(fault)),
+            Err(fault) => Err(RecordingEnd::NotRecorded(fault)),
         }
     }
 
     /// Ends the recording, and notes why.
-    fn end(&mut self, ending: Ending)
+    fn end(&mut self, ending: RecordingEnd)
         ensures ending { self.new.ending ≡ Some ending }
         ensures same { (self.new.plan ≡ self.old.plan) × (self.new.up ≡ self.old.up)
             × (self.new.script ≡ self.old.script) }
     {
         self.ending = Some(ending);
         match ending {
-            Ending::NotRecorded(fault) => self.notes.cannot_record(&fault),
-            Ending::Refused(fault) => self.notes.recording_ended(fault),
+            RecordingEnd::NotRecorded(fault) => self.notes.cannot_record(&fault),
+            RecordingEnd::Refused(fault) => self.notes.recording_ended(fault),
         }
     }
 
     /// Appends lines. The error says why the recording ends.
-    fn append(&mut self, lines: &str) -> Result<(), Ending>
+    fn append(&mut self, lines: &str) -> Result<(), RecordingEnd>
         ensures same { (self.new.plan ≡ self.old.plan) × (self.new.up ≡ self.old.up)
             × (self.new.ending ≡ self.old.ending) }
         ensures appended { OnOk result
@@ -127,12 +127,12 @@ impl<'a, W: Script, R: Log> Recording<'a, W, R> {
     {
         match self.script.append(lines) {
             Ok(()) => Ok(()),
-            Err(fault) => Err(Ending::Refused(fault)),
+            Err(fault) => Err(RecordingEnd::Refused(fault)),
         }
     }
 
     /// Appends the journal of a term. The error says why the recording ends, and then nothing is appended.
-    fn append_journal(&mut self, journal: &[Entry]) -> Result<(), Ending>
+    fn append_journal(&mut self, journal: &[Entry]) -> Result<(), RecordingEnd>
         ensures same { (self.new.plan ≡ self.old.plan) × (self.new.ending ≡ self.old.ending) }
         ensures appended { OnOk result (Appends (W.appended self.old.script)
             (lines_of self.old.plan (events_of journal.now)) (W.appended self.new.script)) }
@@ -146,7 +146,7 @@ impl<'a, W: Script, R: Log> Recording<'a, W, R> {
         let mut text = String::new(self.alloc);
         match record_journal(self.alloc, &self.plan, &mut self.up, journal, &mut text) {
             Ok(()) => self.append(text.as_str()),
-            Err(fault) => Err(Ending::NotRecorded(fault)),
+            Err(fault) => Err(RecordingEnd::NotRecorded(fault)),
         }
     }
 

@@ -24,7 +24,7 @@ use crate::wakers::{Polls, Wakers};
 use dmr_command::ServeFault;
 use dmr_core::Site;
 use dmr_desk::{ConsoleStation, Observer, Pacer, Service, Station, Term};
-use dmr_keeper::{Carried, Forget, Keeper, Outbox, Recorder, TermCounts};
+use dmr_keeper::{Carried, Forget, Keeper, RecordQueue, Recorder, TermCounts};
 use dmr_link::Gate;
 use dmr_pdu::Address;
 use dmr_plan::Plan;
@@ -108,8 +108,8 @@ fn open_books<'a, K: Keeper + Drop, R: Net + Log + Clock + Wait>(
 ) -> Result<Books<'a, K, R>, NotServed>
     ensures { IfOk result (AreNewBooks K.wants site.now.facts.registered keeper) }
 {
-    let waiting = Outbox::new(alloc)?;
-    let outbox = Outbox::new(alloc)?;
+    let waiting = RecordQueue::new(alloc)?;
+    let outbox = RecordQueue::new(alloc)?;
     let maker = maker_if_wanted(rt, alloc, site, &keeper)?;
     Ok(Books {
         maker,

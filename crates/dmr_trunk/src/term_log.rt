@@ -6,7 +6,7 @@ use crate::notes::Notes;
 use crate::port_watch::PortWatch;
 use crate::wakers::Wakers;
 use dmr_keeper::TermCounts;
-use dmr_port::{NoteLimit, Verdict};
+use dmr_port::{NoteLimit, NoteVerdict};
 use log::Log;
 use std::fmt;
 use std::time::Clock;
@@ -106,13 +106,13 @@ impl<'a, R: Log + Clock> TermLog<'a, R> {
         self.before = *connections;
         let now = milliseconds(self.rt).unwrap_or(0);
         match self.limit.count(now) {
-            Verdict::Write => self.notes.note_term(&term),
-            Verdict::WriteAfter(terms) => {
+            NoteVerdict::Write => self.notes.note_term(&term),
+            NoteVerdict::WriteAfter(terms) => {
                 self.notes.more_terms_ended(terms, &self.dropped);
                 self.dropped = Happened::NOTHING;
                 self.notes.note_term(&term);
             }
-            Verdict::Drop => self.dropped.add_all(&term),
+            NoteVerdict::Drop => self.dropped.add_all(&term),
         }
     }
 }

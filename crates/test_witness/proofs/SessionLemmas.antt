@@ -37,20 +37,20 @@ passed_since before after passages whole passes fresh told =
     let begun = passes.follows whole told in
     begun.2 ∙ ap (λ (x : List Passage). x ++ passages) (fresh begun.0 begun.1)
 
-module _ (whole : (m n : WorkState) (doings : List Step) (answers : List Answer) → Steps m n doings → HasPast m.at.link [] → m.at.reported ≡ Some [] → n.at.reported ≡ Some answers → map in_record (past_after [] doings) ≡ read_on [] answers)
-    (works : (m n : WorkState) (past : List Session) (doings : List Step) → Steps m n doings → HasPast m.at.link past → IsOneMeaning n.at.link (past_after past doings)) where
-  pub session : (s t : StationState) (view : List Deposit) (answers : List Answer) (doings : List Step) → Steps (work_state s []) (work_state t view) doings → IsNewStation s → t.reported ≡ Some answers
+module _ (whole : (m n : WorkState) (steps : List Step) (answers : List Answer) → Steps m n steps → HasPast m.at.link [] → m.at.reported ≡ Some [] → n.at.reported ≡ Some answers → map in_record (past_after [] steps) ≡ read_on [] answers)
+    (works : (m n : WorkState) (past : List Session) (steps : List Step) → Steps m n steps → HasPast m.at.link past → IsOneMeaning n.at.link (past_after past steps)) where
+  pub session : (s t : StationState) (view : List Deposit) (answers : List Answer) (steps : List Step) → Steps (work_state s []) (work_state t view) steps → IsNewStation s → t.reported ≡ Some answers
       → IsWholeSession t answers view
-  session s t view answers doings did fresh told =
-      let P : Peer → Type 0 = λ who. IsOrderly who [] doings in
+  session s t view answers steps did fresh told =
+      let P : Peer → Type 0 = λ who. IsOrderly who [] steps in
       record {
-        steps = doings;
+        steps = steps;
         orderly = subst P (sym did.who) (did.orderly [] fresh.link);
-        answered = reported_since s.reported t.reported (answers_in (happened_of doings)) answers did.happens.port fresh.reported told;
-        connections = whole (work_state s []) (work_state t view) doings answers did fresh.link fresh.reported told;
+        answered = reported_since s.reported t.reported (answers_in (happened_of steps)) answers did.happens.port fresh.reported told;
+        connections = whole (work_state s []) (work_state t view) steps answers did fresh.link fresh.reported told;
         deposits = did.view [] fresh.link ∙ sym did.happens.desk;
-        means = works (work_state s []) (work_state t view) [] doings did fresh.link;
-        passed = λ passages passed. passed_since s.passed t.passed (passages_in (happened_of doings)) passages did.happens.gate fresh.passed passed;
+        means = works (work_state s []) (work_state t view) [] steps did fresh.link;
+        passed = λ passages passed. passed_since s.passed t.passed (passages_in (happened_of steps)) passages did.happens.gate fresh.passed passed;
       }
 
 pub no_record : (passages : List Passage) → None ≡ Some passages → ⊥

@@ -29,42 +29,19 @@ use Rattle.dmr_desk.specs.BookState.{site_after_entries}
 use Rattle.dmr_desk.specs.Views.{view_of}
 use Rattle.dmr_desk.specs.Work.{Step, Asked, Served, Waited, station_state}
 
--- ---- the site: carriers 0 and 1, of which 0 has the control channel
+-- ---- the site: carriers 0 and 1, of which 0 has the control channel. Its other settings may be any
 
-abbrev pub plan : Settings
-plan = record {
-  system = 0x2F1;
-  regi = 16776417;
-  tsi = 16776416;
-  leave_bit = None;
-  aloha_sync = false;
-  aloha_version = 0;
-  aloha_offset = false;
-  aloha_active = false;
-  nrand_wait = 0;
-  hang = 50;
-  maximum = 1000;
-  ahoy_wait = 10;
-  ahoy_tries = 3;
-  grant_copies = 2;
-  clear_copies = 2;
-  backoff_low = 2;
-  backoff_high = 15;
-  tick_ms = 60;
-  silence = 100;
-  term_entries = 100;
-  link_version = 1;
-  address = 127 ∷ 0 ∷ 0 ∷ 1 ∷ [];
-  console_port = 7000;
-  radios = record { first = 1; last = 99 } ∷ [];
-  groups = [];
-  carriers = record { number = 0; lpcn = 1; port = 7001 }
-      ∷ record { number = 1; lpcn = 2; port = 7002 } ∷ [];
-  control = 0;
+abbrev pub plan : Settings → Settings
+plan others = record others {
+  lists = record others.lists {
+    carriers = record { number = 0; lpcn = 1; port = 7001 }
+        ∷ record { number = 1; lpcn = 2; port = 7002 } ∷ [];
+    control = 0;
+  };
 }
 
-abbrev pub site : SiteState
-site = record { plan = plan; facts = no_facts }
+abbrev pub site : Settings → SiteState
+site others = record { plan = plan others; facts = no_facts }
 
 -- ---- the journal, oldest first
 
@@ -182,9 +159,9 @@ passages zero = []
 passages (suc n) = Entered ∷ Left ∷ passages n
 
 -- the stations, the pacer and the console at the start, all of which report their records
-abbrev pub start : Start
-start = record {
-  site = site;
+abbrev pub start : Settings → Start
+start others = record {
+  site = site others;
   limit = 100;
   stations = station_state (new_link (Carrier carrier_0)) (Some []) (Some [])
       ∷ station_state (new_link (Carrier carrier_1)) (Some []) (Some []) ∷ [];
@@ -193,9 +170,9 @@ start = record {
 }
 
 -- the same at the end
-abbrev pub end : End
-end = record {
-  site = site_after_entries site journal;
+abbrev pub end : Settings → End
+end others = record {
+  site = site_after_entries (site others) journal;
   journal = journal;
   views = view_of 0 journal ∷ view_of 1 journal ∷ view_of 2 journal ∷ view_of 3 journal ∷ [];
   ends = ending.Finished ∷ ending.Finished ∷ ending.Finished ∷ ending.Finished ∷ [];

@@ -16,14 +16,14 @@ pub const MOST_WITH_ROOM: usize = 56;
 impl Machine {
     /// Slot 0 of the control carrier.
     pub(super) fn control_slot(&self) -> Slot
-        ensures { result ≡ control_slot self.now.plan }
+        ensures { result ≡ control_slot self.now.plan.lists }
     {
         self.pool.control_slot()
     }
 
     /// Reports whether a slot is the control slot.
     pub(super) fn is_control(&self, slot: &Slot) -> bool
-        ensures { result ≡ is_control self.now.plan slot.now }
+        ensures { result ≡ is_control self.now.plan.lists slot.now }
     {
         self.pool.is_control(*slot)
     }

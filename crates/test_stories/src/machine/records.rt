@@ -43,7 +43,7 @@ use answers::{
 };
 use dmr_core::{Acts, Entry, Event, Site};
 use dmr_keeper::{
-    Carried, Forget, InMemory, Keeper, Outbox, Recorder, Records, TimedRecords, records_of,
+    Carried, Forget, InMemory, Keeper, RecordQueue, Recorder, Records, TimedRecords, records_of,
 };
 use dmr_pdu::OutOfMemory;
 use shelf::Shelf;
@@ -64,7 +64,7 @@ struct Terms {
     journal: Vec<Entry>,
     last: Records,
     recorder: Recorder,
-    outbox: Outbox,
+    outbox: RecordQueue,
     shelf: Shelf,
     ended: u64,
     lost: usize,
@@ -224,7 +224,7 @@ kept => 1 changes, 1 notes, 1000 terms, 4 radios
 say end 0.1 =>
 lost 1 =>
 term => 0.1 1001 g91 0 to 7 operator, 1.0 1002 g92 0 to 7 carrier lost, 1.1 1003 g93 0 to 7 carrier lost
-notes => up 0 at 0, up 1 at 0, end 0.1 done at 7, lost 1 at 7
+notes => up 0 at 0, up 1 at 0, end 0 1 done at 7, lost 1 at 7
 poll 0 =>
 up 1 =>
 heard 0.0 9F000001.91.1001 =>
@@ -293,7 +293,7 @@ heard 0.1 9F000001.94.1005 =>
 active 0.1 =>
 term =>
 notes => refused 1001 95 47 at 0, refused 2001 16776902 43 at 1, drop 1999 not registered at 1, \
-    end 0.1 no call at 1, end 7.0 no carrier at 1, move 9 done at 1, stay done at 1
+    end 0 1 no call at 1, end 7 0 no carrier at 1, move 9 done at 1, stay done at 1
 counts => 19 7 7 1 1 3 1 6 3 0 0 2 3 0 1
 changes =>
 say drop 1004 =>
@@ -367,7 +367,7 @@ fn terms_of(alloc: Global, changes: &str) -> Result<Terms, Fail> {
     let Ok(last) = records_of(alloc, &plan, &start, &[]) else {
         return Err("records of no entries".into());
     };
-    let Ok(outbox) = Outbox::new(alloc) else {
+    let Ok(outbox) = RecordQueue::new(alloc) else {
         drop(last);
         return Err("an outbox".into());
     };
@@ -382,7 +382,7 @@ fn terms_of(alloc: Global, changes: &str) -> Result<Terms, Fail> {
 }
 
 /// Returns these, before the first term.
-fn terms_from(alloc: Global, site: Site, last: Records, outbox: Outbox) -> Terms {
+fn terms_from(alloc: Global, site: Site, last: Records, outbox: RecordQueue) -> Terms {
     Terms {
         site,
         journal: Vec::new(alloc),

@@ -1,5 +1,3 @@
-use Rattle.std.proofs.Common.{arith, ◌≡◌, ◌+◌, sum}
-use Rattle.std.proofs.lemmas.Grind.{common_steps}
 use Rattle.dmr_access.proofs.NoiseLemmas.{sum-with_poll, oldest_is}
 use Rattle.dmr_access.proofs.access.begin_number.Goals as goal
 

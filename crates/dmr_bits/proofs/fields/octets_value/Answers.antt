@@ -8,12 +8,14 @@ loop-octet-init c = sym (bits_value-zero (octet_bit c.args.octets.now) 0)
 
 pub overflow_mul-number : goal.overflow_mul-number
 overflow_mul-number c =
-    let below : bits_value (octet_bit c.args.octets.now) 0 (8 * c.loop-octet.octet-index) < 2 ^ 56 = bits_value-below_word (octet_bit c.args.octets.now) 0 (8 * c.loop-octet.octet-index) (omega arith) in
+    let below : bits_value (octet_bit c.args.octets.now) 0 (8 * c.loop-octet.octet-index) < 2 ^ 56 =
+    bits_value-below_word (octet_bit c.args.octets.now) 0 (8 * c.loop-octet.octet-index) (omega arith) in
     omega (arith, below, c.loop-octet.invariant)
 
 pub overflow_add-number : goal.overflow_add-number
 overflow_add-number c =
-    let below : bits_value (octet_bit c.args.octets.now) 0 (8 * c.loop-octet.octet-index) < 2 ^ 56 = bits_value-below_word (octet_bit c.args.octets.now) 0 (8 * c.loop-octet.octet-index) (omega arith) in
+    let below : bits_value (octet_bit c.args.octets.now) 0 (8 * c.loop-octet.octet-index) < 2 ^ 56 =
+    bits_value-below_word (octet_bit c.args.octets.now) 0 (8 * c.loop-octet.octet-index) (omega arith) in
     omega (arith, below, c.loop-octet.invariant)
 
 pub loop-octet-preserved : goal.loop-octet-preserved

@@ -8,13 +8,13 @@ returns-clause-steps c =
     one_record (record { begun = law.begun; paused = law.paused; writing = law.writing; reads = law.reads })
 
 pub returns-clause-since : goal.returns-clause-since
-returns-clause-since c = λ m n past doings begun whole went stands before after.
+returns-clause-since c = λ m n past steps begun whole went stands before after.
     let law = c.records_read.ensures in
     let laws : RecordLaws = record { begun = law.begun; paused = law.paused; writing = law.writing; reads = law.reads } in
-    record_since laws m.at.link.who past doings begun whole (went.orderly past stands) m.at.reported n.at.reported went.happens.port before after
+    record_since laws m.at.link.who past steps begun whole (went.orderly past stands) m.at.reported n.at.reported went.happens.port before after
 
 pub returns-clause-whole : goal.returns-clause-whole
-returns-clause-whole c = λ m n doings whole went stands before after.
+returns-clause-whole c = λ m n steps whole went stands before after.
     let law = c.records_read.ensures in
     let laws : RecordLaws = record { begun = law.begun; paused = law.paused; writing = law.writing; reads = law.reads } in
-    whole_record laws m.at.link.who doings whole (went.orderly [] stands) m.at.reported n.at.reported went.happens.port before after
+    whole_record laws m.at.link.who steps whole (went.orderly [] stands) m.at.reported n.at.reported went.happens.port before after

@@ -3,7 +3,7 @@ use Rattle.std.specs.Prelude.{option_map}
 use Rattle.std.proofs.lemmas.List.{length-drop, take_rest}
 use Rattle.dmr_console.specs.Steps.{open_line_after}
 use Rattle.dmr_link.specs.Console.{said_from}
-use Rattle.dmr_link.specs.Meaning.{list_of_notice}
+use Rattle.dmr_link.specs.Notices.{list_of_notice}
 use Rattle.dmr_link.specs.Notices.{notice_meant}
 use Rattle.dmr_link.proofs.OperatorLineLemmas.{lines_go, line_fits, lines_fit, line_site, line_items}
 use Rattle.dmr_link.proofs.console.answer_each_line.Goals as goal
@@ -29,7 +29,7 @@ loop-from-preserved c =
     let later = c.receive_line-count.new.cutter in
     let it = option_map notice_meant c.receive_line-count.result.1 in
     let rest : take (length octets - i) (drop i octets) ≡ drop i octets = take_rest octets i in
-    let count : n ≤ length (take (length octets - i) (drop i octets)) = c.receive_line-count.ensures.count in
+    let count : n ≤ length (take (length octets - i) (drop i octets)) = c.receive_line-count.ensures.piece.1 in
     let brings : said_from begun (take n (drop i octets)) ≡ list_of_notice it = ap (λ (xs : List ℕ). said_from begun (take n xs)) (sym rest) ∙ c.receive_line-count.ensures.notice in
     let left = c.receive_line-count.ensures.cutter ∙ ap (λ (xs : List ℕ). open_line_after begun (take n xs)) rest in
     record {

@@ -4,7 +4,7 @@ use Rattle.dmr_console.specs.declared.line_cutter.LineStep.{LineStep}
 use Rattle.dmr_console.specs.Steps.{open_line_after}
 use Rattle.dmr_link.specs.declared.notices.Notice.{Notice}
 use Rattle.dmr_link.specs.Console.{line_means, said_from}
-use Rattle.dmr_link.specs.Meaning.{list_of_notice}
+use Rattle.dmr_link.specs.Notices.{list_of_notice}
 use Rattle.dmr_link.specs.Notices.{notice_meant}
 use Rattle.dmr_link.proofs.OperatorLineLemmas.{left_by_one, said_by_one}
 use Rattle.dmr_link.proofs.console.receive_line.Goals as goal

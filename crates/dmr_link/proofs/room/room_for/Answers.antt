@@ -12,7 +12,7 @@ loop-from-preserved c =
     let n = c.receive-count.result.0 in
     let k = c.loop-from.trial in
     let rest : take (length octets - i) (drop i octets) ≡ drop i octets = take_rest octets i in
-    let count : n ≤ length (take (length octets - i) (drop i octets)) = c.receive-count.ensures.count in
+    let count : n ≤ length (take (length octets - i) (drop i octets)) = c.receive-count.ensures.piece.1 in
     let brings = ap (λ (xs : List ℕ). notices_of_octets who k (take n xs)) (sym rest) ∙ c.receive-count.ensures.notice in
     let left = c.receive-count.ensures.connection ∙ ap (λ (xs : List ℕ). connection_after_octets who k (take n xs)) rest in
     record {

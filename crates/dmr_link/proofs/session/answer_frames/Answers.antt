@@ -1,7 +1,7 @@
 use Rattle.std.proofs.Common.{◌≡◌, ℕ, ◌+◌, ◌-◌, ◌<◌, ◌≤◌, List, Option, length, take, drop, get_or, get_or-drop, sym, ap, subst, arith, ◌∙◌}
 use Rattle.std.specs.Prelude.{is_some, option_map}
 use Rattle.std.proofs.lemmas.List.{length-drop, take_rest}
-use Rattle.dmr_link.specs.Meaning.{list_of_notice}
+use Rattle.dmr_link.specs.Notices.{list_of_notice}
 use Rattle.dmr_link.specs.Notices.{Notice, notice_meant}
 use Rattle.dmr_link.specs.Numbering.{next_after_frames}
 use Rattle.dmr_link.specs.Session.{frames_said}
@@ -40,7 +40,7 @@ loop-from-preserved c =
     let n = c.receive-count.result.0 in
     let xs = take n (drop i octets) in
     let rest : take (length octets - i) (drop i octets) ≡ drop i octets = take_rest octets i in
-    let count : n ≤ length (take (length octets - i) (drop i octets)) = c.receive-count.ensures.count in
+    let count : n ≤ length (take (length octets - i) (drop i octets)) = c.receive-count.ensures.piece.1 in
     let brings : notices_of_octets whose k xs ≡ list_of_notice (option_map notice_meant c.receive-count.result.1.notice) = ap (λ (ys : List ℕ). notices_of_octets whose k (take n ys)) (sym rest) ∙ c.receive-count.ensures.notice in
     let left : later ≡ connection_after_octets whose k xs = c.receive-count.ensures.connection ∙ ap (λ (ys : List ℕ). connection_after_octets whose k (take n ys)) rest in
     let next = c.loop-from.state.numbering in

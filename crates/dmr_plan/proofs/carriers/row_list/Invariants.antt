@@ -11,5 +11,6 @@ invariant-loop-value l = record {
   count : length l.rows ≡ l.value-index;
   each : All IsCarrierRow l.rows;
   apart : AreApart l.console_port l.rows;
-  same : in_turn (carrier_of_item l.console_port) l.rows (items_view (drop l.value-index l.values)) ≡ in_turn (carrier_of_item l.console_port) [] (items_view l.values);
+  same : in_turn (carrier_of_item l.console_port) l.rows (items_view (drop l.value-index l.values))
+      ≡ in_turn (carrier_of_item l.console_port) [] (items_view l.values);
 }

@@ -11,5 +11,6 @@ abbrev pub invariant-loop-value : goal.invariant-loop-value
 invariant-loop-value l = record {
   count : length l.groups ≡ l.value-index;
   each : All (IsNumberOf Groups) l.groups;
-  same : in_turn (λ _ d. number Groups d) l.groups (items_view (drop l.value-index l.values)) ≡ in_turn (λ _ d. number Groups d) [] (items_view l.values);
+  same : in_turn (λ _ d. number Groups d) l.groups (items_view (drop l.value-index l.values))
+      ≡ in_turn (λ _ d. number Groups d) [] (items_view l.values);
 }

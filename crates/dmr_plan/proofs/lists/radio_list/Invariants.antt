@@ -10,5 +10,6 @@ abbrev pub invariant-loop-value : goal.invariant-loop-value
 invariant-loop-value l = record {
   count : length l.ranges ≡ l.value-index;
   each : All IsRange l.ranges;
-  same : in_turn (λ _ d. range_of d) l.ranges (items_view (drop l.value-index l.values)) ≡ in_turn (λ _ d. range_of d) [] (items_view l.values);
+  same : in_turn (λ _ d. range_of d) l.ranges (items_view (drop l.value-index l.values))
+      ≡ in_turn (λ _ d. range_of d) [] (items_view l.values);
 }

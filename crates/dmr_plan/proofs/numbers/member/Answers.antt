@@ -5,4 +5,5 @@ use Rattle.toml.specs.View.{table_view}
 use Rattle.dmr_plan.proofs.numbers.member.Goals as goal
 
 pub returns : goal.returns
-returns c = table_get c.get.result c.name.result.now c.args.table.now.entries c.get.ensures.value ∙ ap (λ k. get_member k (table_view c.args.table.now)) c.name.ensures
+returns c = table_get c.get.result c.name.result.now c.args.table.now.entries c.get.ensures.value
+    ∙ ap (λ k. get_member k (table_view c.args.table.now)) c.name.ensures

@@ -11,7 +11,7 @@ loop-number-preserved g c =
     let plan = c.args.plan.now in
     let put_out : ℕ → List ℕ = λ number. slice_index_or c.args.outputs.now.carriers number [] in
     let number = c.loop-number.number in
-    let found = c.is_some.ensures ∙ c.carrier_with.ensures.found ∙ ap (has_number_in plan.carriers) c.new-carrier.ensures in
+    let found = c.is_some.ensures ∙ c.carrier_with.ensures.found ∙ ap (has_number_in plan.lists.carriers) c.new-carrier.ensures in
     let old = g.W.Write.contents c.args.out.now in
     let before = g.W.Write.contents c.loop-number.out in
     elim c.if-is_some.branch [

@@ -38,7 +38,7 @@ pub returns-in-Err : goal.returns-in-Err
 returns-in-Err g c =
     let kept = g.K.Keeper.kept in
     let begun = option_map (λ m. m.recorder.carried) c.args.books.maker in
-    let same : c.term_entries-limit.result ≡ c.args.service.site.plan.term_entries = c.term_entries-limit.ensures ∙ ap (λ (plan : Settings). plan.term_entries) c.plan.ensures in
+    let same : c.term_entries-limit.result ≡ c.args.service.site.plan.serving.term_entries = c.term_entries-limit.ensures ∙ ap (λ (plan : Settings). plan.serving.term_entries) c.plan.ensures in
     let P : ℕ → Type 0 = λ limit. HaveStoppedServing kept g.K.Keeper.refuses (start_at g.P.Wire.reported g.G.Gate.passed g.T.Pacer.paced g.C.Wire.reported limit c.args.service) (terms_asked c.args.terms) c.loop-done.done c.in-Err.fault (g.O.Observer.seen c.args.observer) (g.O.Observer.seen c.loop-done.observer) begun c.args.books.keeping c.args.books.waiting.outbox c.hand_over_rest.result in
     let counted = c.terms_asked-done-end.ensures in
     let fault = subst P same (way_stops kept g.K.Keeper.refuses (start_at g.P.Wire.reported g.G.Gate.passed g.T.Pacer.paced g.C.Wire.reported c.term_entries-limit.result c.args.service) (start_at g.P.Wire.reported g.G.Gate.passed g.T.Pacer.paced g.C.Wire.reported c.term_entries-limit.result c.loop-done.service)
@@ -50,11 +50,11 @@ pub returns : goal.returns
 returns g c =
     let kept = g.K.Keeper.kept in
     let begun = option_map (λ m. m.recorder.carried) c.args.books.maker in
-    let same : c.term_entries-limit.result ≡ c.args.service.site.plan.term_entries = c.term_entries-limit.ensures ∙ ap (λ (plan : Settings). plan.term_entries) c.plan.ensures in
+    let same : c.term_entries-limit.result ≡ c.args.service.site.plan.serving.term_entries = c.term_entries-limit.ensures ∙ ap (λ (plan : Settings). plan.serving.term_entries) c.plan.ensures in
     let counted = c.terms_asked-done-end.ensures in
     let all : c.loop-done.done ≡ terms_asked c.args.terms = omega arith in
     let P : ℕ → Type 0 = λ limit. HaveServed kept g.K.Keeper.refuses (start_at g.P.Wire.reported g.G.Gate.passed g.T.Pacer.paced g.C.Wire.reported limit c.args.service) c.loop-done.done (start_at g.P.Wire.reported g.G.Gate.passed g.T.Pacer.paced g.C.Wire.reported limit c.loop-done.service) (g.O.Observer.seen c.args.observer) (g.O.Observer.seen c.loop-done.observer) begun c.args.books.keeping c.args.books.waiting.outbox c.hand_over_rest-2.result in
-    let Q : ℕ → Type 0 = λ terms. HaveServed kept g.K.Keeper.refuses (start_at g.P.Wire.reported g.G.Gate.passed g.T.Pacer.paced g.C.Wire.reported c.args.service.site.plan.term_entries c.args.service) terms (start_at g.P.Wire.reported g.G.Gate.passed g.T.Pacer.paced g.C.Wire.reported c.args.service.site.plan.term_entries c.loop-done.service) (g.O.Observer.seen c.args.observer) (g.O.Observer.seen c.loop-done.observer) begun c.args.books.keeping c.args.books.waiting.outbox c.hand_over_rest-2.result in
+    let Q : ℕ → Type 0 = λ terms. HaveServed kept g.K.Keeper.refuses (start_at g.P.Wire.reported g.G.Gate.passed g.T.Pacer.paced g.C.Wire.reported c.args.service.site.plan.serving.term_entries c.args.service) terms (start_at g.P.Wire.reported g.G.Gate.passed g.T.Pacer.paced g.C.Wire.reported c.args.service.site.plan.serving.term_entries c.loop-done.service) (g.O.Observer.seen c.args.observer) (g.O.Observer.seen c.loop-done.observer) begun c.args.books.keeping c.args.books.waiting.outbox c.hand_over_rest-2.result in
     let run = subst Q all (subst P same (way_ends kept g.K.Keeper.refuses (start_at g.P.Wire.reported g.G.Gate.passed g.T.Pacer.paced g.C.Wire.reported c.term_entries-limit.result c.args.service) (start_at g.P.Wire.reported g.G.Gate.passed g.T.Pacer.paced g.C.Wire.reported c.term_entries-limit.result c.loop-done.service) c.loop-done.done
     (g.O.Observer.seen c.args.observer) (g.O.Observer.seen c.loop-done.observer) begun (option_map (λ m. m.recorder.carried) c.loop-done.maker) c.args.books.keeping c.args.books.waiting.outbox (held c.loop-done.writer) c.loop-done.waiting.outbox c.hand_over_rest-2.result
     c.loop-done.invariant c.hand_over_rest-2.ensures.goes_on c.hand_over_rest-2.ensures.end)) in

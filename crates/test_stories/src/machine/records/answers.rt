@@ -46,7 +46,7 @@ pub fn write_ended(said: &mut String, calls: &[EndedCall]) -> Result<(), OutOfMe
 pub fn write_open(said: &mut String, calls: &[OpenCall]) -> Result<(), OutOfMemory> {
     for call in calls {
         write_mark(said)?;
-        write_call(said, "", &call.standing.call)?;
+        write_call(said, "", &call.active.call)?;
         write!(said, " since {}", call.began)?;
     }
     Ok(())
@@ -118,18 +118,9 @@ fn write_occurrence(said: &mut String, what: &Occurrence) -> Result<(), OutOfMem
             target,
             reason,
         } => write!(said, "refused {source} {target} {}", reason.get()),
-        Occurrence::DropCommand { radio, outcome } => {
-            write!(said, "drop {radio}{}", outcome_word(*outcome))
+        Occurrence::Commanded { command, outcome } => {
+            write!(said, "{command}{}", outcome_word(*outcome))
         }
-        Occurrence::EndCommand {
-            carrier,
-            slot,
-            outcome,
-        } => write!(said, "end {carrier}.{slot}{}", outcome_word(*outcome)),
-        Occurrence::MoveCommand { channel, outcome } => {
-            write!(said, "move {}{}", channel.get(), outcome_word(*outcome))
-        }
-        Occurrence::StayCommand { outcome } => write!(said, "stay{}", outcome_word(*outcome)),
     }
 }
 

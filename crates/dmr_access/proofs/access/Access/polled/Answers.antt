@@ -1,4 +1,4 @@
-use Rattle.std.proofs.Common.{arith, ◌≡◌, ◌+◌, ◌-◌, ◌≤◌, sum, length, ap, List, ℕ}
+use Rattle.std.proofs.Common.{arith, ◌≡◌, sum, length, ap, List, ℕ}
 use Rattle.dmr_access.specs.Noise.{AreNoiseNumbers, with_poll}
 use Rattle.dmr_access.proofs.NoiseLemmas.{with_poll-are}
 use Rattle.dmr_access.proofs.access.Access.polled.Goals as goal
@@ -12,4 +12,5 @@ invariant_of-self c =
       rw now are,
       c.self.invariant.2,
       omega (arith, c.self.invariant.3, c.begin_number.ensures.fewer, ap (λ (xs : List ℕ). sum xs) now),
+      c.self.invariant.4,
     )

@@ -11,4 +11,5 @@ invariant_of-self c =
       (inr (ap length items), rw items (All-replicate (λ n. n ≤ 15) 32 0 (omega arith))),
       search arith,
       c.self.invariant.3 ∙ ap (λ (xs : List ℕ). sum xs) empty ∙ sym (ap (λ (xs : List ℕ). sum xs) items),
+      c.self.invariant.4,
     )

@@ -13,5 +13,8 @@ invariant_of-self c =
 
 pub returns : goal.returns
 returns c =
-    let left : c.remove-2.new.self ≡ on_other_carriers c.args.carrier c.self.inside.calls = rw (c.remove.ensures, c.get-first.ensures.value) at c.remove-2.ensures ∙ left_on_carriers c.self.inside.calls c.args.carrier c.self.invariant.1 in
-    rw (← c.self.view_is) (ap (λ (xs : List ActiveCall). let now : ActiveLists = record { asks = c.self.inside.asks; lines = c.self.inside.lines; calls = xs } in now) left)
+    let left : c.remove-2.new.self ≡ on_other_carriers c.args.carrier c.self.inside.calls =
+    rw (c.remove.ensures, c.get-first.ensures.value) at c.remove-2.ensures
+    ∙ left_on_carriers c.self.inside.calls c.args.carrier c.self.invariant.1 in
+    rw (← c.self.view_is) (ap (λ (xs : List ActiveCall). let now : ActiveLists =
+    record { asks = c.self.inside.asks; lines = c.self.inside.lines; calls = xs } in now) left)

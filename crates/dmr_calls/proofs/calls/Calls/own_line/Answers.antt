@@ -8,4 +8,6 @@ use Rattle.dmr_calls.proofs.calls.Calls.own_line.Goals as goal
 pub returns-else-has : goal.returns-else-has
 returns-else-has c =
     let none : list_any (λ (l : Line). l.source == c.args.source) c.self.inside.lines ≡ false = search rules in
-    rw (← c.self.view_is, c.if-has.false) (sym (none_passes_both (λ (l : Line). l.source == c.args.source) (λ l. not l.group && (l.target == c.args.target)) c.self.inside.lines none))
+    rw (← c.self.view_is, c.if-has.false)
+    (sym (none_passes_both (λ (l : Line). l.source == c.args.source)
+    (λ l. not l.group && (l.target == c.args.target)) c.self.inside.lines none))

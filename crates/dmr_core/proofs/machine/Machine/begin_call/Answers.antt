@@ -24,7 +24,8 @@ hold-requires c =
       fills = c.self.inside.access.fills;
       late = c.self.inside.late;
     } in
-    pool_free c.self.inside.plan facts c.self.inside.pool c.self.invariant.1 refl refl c.self.invariant.2 c.args.call.now.slot c.slot_is_in_range.ensures ∙ may.free
+    pool_free c.self.inside.plan facts c.self.inside.pool c.self.invariant.3 refl refl c.self.invariant.4 c.args.call.now.slot
+    c.slot_is_in_range.ensures ∙ may.free
 
 pub invariant_of-self : goal.invariant_of-self
 invariant_of-self c =
@@ -32,12 +33,15 @@ invariant_of-self c =
     let held = c.self.inside.pool.held in
     let call = c.args.call.now in (
       c.self.invariant.0,
-      ap (λ (p : Slots). p.plan) c.hold.ensures ∙ c.self.invariant.1,
+      c.self.invariant.1,
+      c.self.invariant.2,
+      ap (λ (p : Slots). p.lists) c.hold.ensures ∙ c.self.invariant.3,
       λ s is.
           ap (λ (p : Slots). is_slot_held p.held s) c.hold.ensures
-          ∙ begun held calls call c.use_invariant.ensures.held c.slot_is_in_range.ensures c.self.invariant.2 s is
+          ∙ begun held calls call c.use_invariant.ensures.held c.slot_is_in_range.ensures c.self.invariant.4 s is
           ∙ sym (ap (λ (n : ActiveLists). has_call_on n.calls s) c.add_call.ensures),
     )
 
 pub add_call-requires : goal.add_call-requires
-add_call-requires c = let may = subst (λ (s : SiteState). MayBegin s.plan s.facts c.args.call.now) (sym c.self.view_is) c.requires in may.few
+add_call-requires c =
+    let may = subst (λ (s : SiteState). MayBegin s.plan s.facts c.args.call.now) (sym c.self.view_is) c.requires in may.few

@@ -12,8 +12,11 @@ invariant_of-self c =
     subst P (sym c.apply_to.ensures.facts)
     (record {
       plan = c.self.invariant.plan;
-      sound = sound_after c.self.inside.machine.plan c.self.inside.machine.facts (unattributed_entry c.args.event.now c.apply_to.new.acts ∷ []) (plan_known c.self.inside.machine.plan c.self.invariant.plan) c.self.invariant.sound (c.apply_to.ensures.acts, tt);
+      sound = sound_after c.self.inside.machine.plan c.self.inside.machine.facts
+          (unattributed_entry c.args.event.now c.apply_to.new.acts ∷ [])
+          (plan_known c.self.inside.machine.plan c.self.invariant.plan) c.self.invariant.sound (c.apply_to.ensures.acts, tt);
     })
 
 pub apply_to-requires : goal.apply_to-requires
-apply_to-requires c = acts_may c.self.inside.machine.plan c.self.inside.machine.facts c.args.event.now (plan_known c.self.inside.machine.plan c.self.invariant.plan) c.self.invariant.sound
+apply_to-requires c = acts_may c.self.inside.machine.plan c.self.inside.machine.facts c.args.event.now
+    (plan_known c.self.inside.machine.plan c.self.invariant.plan) c.self.invariant.sound

@@ -1,4 +1,4 @@
-use Rattle.std.proofs.Common.{◌≡◌, ℕ, List, Bool, true, sym, subst, ap, ◌∙◌}
+use Rattle.std.proofs.Common.{◌≡◌, ℕ, List, true, sym, subst, ap, ◌∙◌}
 use Rattle.std.specs.List.{All}
 use Rattle.dmr_plan.specs.Plan.{lists_radio}
 use Rattle.dmr_core.specs.State.{SiteState, IsSite}

@@ -1,28 +1,36 @@
-use Rattle.std.proofs.Common.{◌≡◌, ◌∙◌, sym, subst, true, List, Option}
-use Rattle.dmr_wire.specs.Answers.{Answer}
+use Rattle.std.proofs.Common.{◌≡◌, ◌∙◌, sym, subst, true}
+use Rattle.std.specs.Prelude.{Ok}
 use Rattle.dmr_link.specs.declared.link_state.LinkState.{LinkState}
-use Rattle.dmr_link.specs.Happenings.{Disordered}
-use Rattle.dmr_link.specs.Moves.{Moves}
-use Rattle.dmr_link.specs.Passages.{Passage}
-use Rattle.dmr_link.specs.Sessions.{sides, Cuts}
+use Rattle.dmr_link.specs.Cutting.{CutsOff}
 use Rattle.dmr_link.specs.LinkSteps.{is_live}
-use Rattle.dmr_link.proofs.LinksHavePasts.{cuts}
+use Rattle.dmr_link.proofs.CutLemmas.{cuts_off, cuts_off_not}
 use Rattle.dmr_link.proofs.console_link.ConsoleLink.cut.Given.{Over}
 use Rattle.dmr_link.proofs.console_link.ConsoleLink.cut.Goals as goal
 
-inside_cuts : (g : Over) (c : goal.After-flush_pending g) → Cuts c.self.inside.state c.flush_pending.new.self (g.D.Desk.calls c.args.desk.now) (g.D.Desk.calls c.flush_pending.new.desk)
+live : (g : Over) (c : goal.After-flush_pending g) → is_live c.self.inside.state ≡ true
+live g c = sym c.is_live.ensures ∙ c.if-not-is_live.false
+
+inside_cuts : (g : Over) (c : goal.After-flush_pending g) →
+    CutsOff g.D.Desk c.self.inside.state c.flush_pending.new.self c.args.desk.now c.flush_pending.new.desk c.flush_pending.result
 inside_cuts g c =
-    let live : is_live c.self.inside.state ≡ true = sym c.is_live.ensures ∙ c.if-not-is_live.false in
-    let P : Option (List Answer) → Option (List Passage) → LinkState → Type 0 = λ reported passed l. Moves l c.flush_pending.new.self (sides reported (g.D.Desk.calls c.args.desk.now) passed) (sides reported (g.D.Desk.calls c.flush_pending.new.desk) passed) 0 0 0 Disordered Disordered in
-    cuts c.self.inside.state c.flush_pending.new.self _ _ live (λ reported passed. subst (P reported passed) c.cut_connection.ensures (c.flush_pending.ensures.moves reported passed))
+    let is = c.cut_connection.ensures in
+    let flushed = c.flush_pending.ensures in
+    cuts_off c.self.inside.state c.flush_pending.new.self c.flush_pending.result (live g c) flushed.keeps
+    (rw is at flushed.moves) flushed.ok flushed.over flushed.live (rw is at flushed.connection) (rw is at flushed.closing)
 
 pub invariant_of-self : goal.invariant_of-self
 invariant_of-self g c = (
-  (inside_cuts g c).same ∙ c.self.invariant.0,
-  (_, (inside_cuts g c).stands c.self.invariant.1.0 c.self.invariant.1.1),
+  ((inside_cuts g c).cuts (live g c)).same ∙ c.self.invariant.0,
+  (_, ((inside_cuts g c).cuts (live g c)).stands c.self.invariant.1.0 c.self.invariant.1.1),
 )
 
-pub returns-clause-cuts : goal.returns-clause-cuts
-returns-clause-cuts g c = λ live.
-    let Q : LinkState → Type 0 = λ l. Cuts l c.flush_pending.new.self (g.D.Desk.calls c.args.desk.now) (g.D.Desk.calls c.flush_pending.new.desk) in
+pub returns-then-not-is_live : goal.returns-then-not-is_live
+returns-then-not-is_live g c =
+    let Q : LinkState → Type 0 = λ l. CutsOff g.D.Desk l l c.args.desk.now c.args.desk.now (Ok tt) in
+    subst Q c.self.view_is (cuts_off_not c.self.inside.state (sym c.is_live.ensures ∙ c.if-not-is_live.true))
+
+pub returns : goal.returns
+returns g c =
+    let Q : LinkState → Type 0 = λ l.
+    CutsOff g.D.Desk l c.flush_pending.new.self c.args.desk.now c.flush_pending.new.desk c.flush_pending.result in
     subst Q c.self.view_is (inside_cuts g c)

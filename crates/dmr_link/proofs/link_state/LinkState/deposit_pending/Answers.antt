@@ -1,5 +1,6 @@
-use Rattle.dmr_link.proofs.StepsFollow.{moves_none}
+use Rattle.std.proofs.Common.{refl}
+use Rattle.dmr_link.proofs.StepLemmas.{steps_none}
 use Rattle.dmr_link.proofs.link_state.LinkState.deposit_pending.Goals as goal
 
-pub returns-then-is_quiet-clause-moves : goal.returns-then-is_quiet-clause-moves
-returns-then-is_quiet-clause-moves g c = moves_none _ _ _ _
+pub returns-then-is_quiet : goal.returns-then-is_quiet
+returns-then-is_quiet g c = record { step = steps_none; stops = c.is_quiet.ensures c.if-is_quiet.true; unread = refl }

@@ -1,7 +1,7 @@
 use Rattle.std.proofs.Common.{arith, ◌≡◌, ℕ, List, take, drop, take-append-drop, sym, ap, ◌∙◌}
 use Rattle.std.specs.Prelude.{option_map}
 use Rattle.std.proofs.lemmas.List.{length-drop}
-use Rattle.dmr_link.specs.Meaning.{list_of_notice}
+use Rattle.dmr_link.specs.Notices.{list_of_notice}
 use Rattle.dmr_link.specs.Notices.{notice_meant}
 use Rattle.dmr_link.specs.Peers.{all_produce, left_after, closes_by}
 use Rattle.dmr_link.specs.LinkSteps.{closing_then, kept_then}
@@ -19,7 +19,7 @@ returns c =
       octets = take n l.unread;
       rest = drop n l.unread;
       notice = option_map notice_meant outcome.notice;
-      few = omega (arith, c.requires, c.receive-count.ensures.some, length-drop {A = ℕ} n l.unread);
+      few = omega (arith, c.requires, c.receive-count.ensures.piece.0, length-drop {A = ℕ} n l.unread);
       in_two = sym (take-append-drop n l.unread);
       means = brings;
       alone = c.keep_outcome.ensures.alone;

@@ -1,34 +1,30 @@
-use Rattle.std.proofs.Common.{arith, rules, ◌≤◌, slice_index_or, subst, ap, sym, ◌∙◌}
+use Rattle.std.proofs.Common.{◌≡◌, true, ap, sym, subst, ◌∙◌}
 use Rattle.std.specs.Prelude.{slice_get}
-use Rattle.dmr_pool.specs.Slots.{box}
-use Rattle.dmr_pool.specs.Grants.{WaitingPdus, slot_counted}
-use Rattle.dmr_pool.proofs.GrantLemmas.{some_waited, taken_kept, taken_none, taken_one}
+use Rattle.dmr_pool.specs.Slots.{box, slot_at}
+use Rattle.dmr_pool.specs.Grants.{IsOneMore, WaitingPdus, is_this, slot_counted}
+use Rattle.dmr_pool.proofs.GrantLemmas.{taken_counted, taken_kept, taken_some}
 use Rattle.dmr_pool.proofs.outboxes.Outboxes.take.Goals as goal
 
-pub overflow_sub-self : goal.overflow_sub-self
-overflow_sub-self c =
-    subst (λ n. 1 ≤ slice_index_or c.self.inside.grants n 0) (sym c.index-in-Some.ensures.value)
-    (some_waited c.self.inside.plan c.self.inside.outboxes.items c.self.inside.grants c.args.slot.now c.in-Some.granted c.args.pdu.now c.use_invariant.ensures c.index.ensures.numbers
-    (omega (arith, c.self.invariant.0.size, c.index.ensures.range, c.index.ensures.value))
+pub uncount_grant-requires : goal.uncount_grant-requires
+uncount_grant-requires c k below this =
+    let inside = c.self.inside in
+    let granted = c.slot_counted-granted.ensures ∙ sym (ap (λ (w : WaitingPdus). slot_counted w.lists c.args.slot.now c.args.pdu.now) c.self.view_is) in
+    taken_some inside.lists inside.outboxes.items inside.grants c.args.slot.now c.args.pdu.now c.index.result c.index_mut.result.now
+    c.self.invariant.2 c.index.ensures.numbers c.index.ensures.value c.index_mut.ensures.value c.self.invariant.0 c.self.invariant.1
     (ap (λ (w : WaitingPdus). slice_get (box w.outboxes c.args.slot.now) 0) c.self.view_is ∙ c.requires)
-    (ap (λ (w : WaitingPdus). slot_counted w.plan c.args.slot.now c.args.pdu.now) c.self.view_is ∙ sym c.slot_counted-granted.ensures ∙ c.in-Some.is)
-    c.index-in-Some.ensures.numbers c.self.invariant.1)
+    k below (subst (λ o. is_this o (slot_at k) ≡ true) granted this)
 
 pub invariant_of-self : goal.invariant_of-self
-invariant_of-self c = (
-  taken_kept c.self.inside.plan c.self.inside.outboxes.items c.self.inside.grants c.args.slot.now c.args.pdu.now c.index.result c.index_mut.result.now c.use_invariant.ensures c.index.ensures.numbers c.index.ensures.value c.index_mut.ensures.value
-      c.self.invariant.0 c.self.invariant.1 c.take.new.self c.take.ensures.rest,
-  taken_one c.self.inside.plan c.self.inside.outboxes.items c.self.inside.grants c.args.slot.now c.args.pdu.now c.index.result c.index_mut.result.now c.use_invariant.ensures c.index.ensures.numbers c.index.ensures.value c.index_mut.ensures.value
-      c.self.invariant.0 c.self.invariant.1 c.take.new.self c.in-Some.granted c.index-in-Some.result c.take.ensures.rest
-      (ap (λ (w : WaitingPdus). slice_get (box w.outboxes c.args.slot.now) 0) c.self.view_is ∙ c.requires)
-      (ap (λ (w : WaitingPdus). slot_counted w.plan c.args.slot.now c.args.pdu.now) c.self.view_is ∙ sym c.slot_counted-granted.ensures ∙ c.in-Some.is)
-      c.index-in-Some.ensures.numbers c.index-in-Some.ensures.value (search rules),
-)
-
-pub invariant_of-self-in_default : goal.invariant_of-self-in_default
-invariant_of-self-in_default c = (
-  taken_kept c.self.inside.plan c.self.inside.outboxes.items c.self.inside.grants c.args.slot.now c.args.pdu.now c.index.result c.index_mut.result.now c.use_invariant.ensures c.index.ensures.numbers c.index.ensures.value c.index_mut.ensures.value
-      c.self.invariant.0 c.self.invariant.1 c.take.new.self c.take.ensures.rest,
-  taken_none c.self.inside.plan c.self.inside.outboxes.items c.self.inside.grants c.args.slot.now c.args.pdu.now c.index.result c.index_mut.result.now c.use_invariant.ensures c.index.ensures.numbers c.index.ensures.value c.index_mut.ensures.value
-      c.self.invariant.0 c.self.invariant.1 c.take.new.self c.take.ensures.rest (ap (λ (w : WaitingPdus). slice_get (box w.outboxes c.args.slot.now) 0) c.self.view_is ∙ c.requires) (ap (λ (w : WaitingPdus). slot_counted w.plan c.args.slot.now c.args.pdu.now) c.self.view_is ∙ sym c.slot_counted-granted.ensures ∙ c.in_default.is),
-)
+invariant_of-self c =
+    let inside = c.self.inside in
+    let granted = c.slot_counted-granted.ensures ∙ sym (ap (λ (w : WaitingPdus). slot_counted w.lists c.args.slot.now c.args.pdu.now) c.self.view_is) in (
+      taken_kept inside.lists inside.outboxes.items inside.grants c.args.slot.now c.args.pdu.now c.index.result c.index_mut.result.now
+          c.self.invariant.2 c.index.ensures.numbers c.index.ensures.value c.index_mut.ensures.value c.self.invariant.0 c.self.invariant.1
+          c.take.new.self c.take.ensures.rest,
+      taken_counted inside.lists inside.outboxes.items inside.grants c.args.slot.now c.args.pdu.now c.index.result c.index_mut.result.now
+          c.self.invariant.2 c.index.ensures.numbers c.index.ensures.value c.index_mut.ensures.value c.self.invariant.0 c.self.invariant.1
+          c.take.new.self c.uncount_grant.new.grants c.take.ensures.rest
+          (ap (λ (w : WaitingPdus). slice_get (box w.outboxes c.args.slot.now) 0) c.self.view_is ∙ c.requires)
+          (subst (λ o. IsOneMore c.uncount_grant.new.grants o inside.grants) granted c.uncount_grant.ensures),
+      c.self.invariant.2,
+    )

@@ -26,13 +26,15 @@ unfoldable pub code_number : ℕ → ℕ → ℕ
 code_number part k = number_of_bit ENCODED.entries part k
 
 -- the entries of a group of four add the same as its bits one by one
-entries_right : agree_in_fours (λ k part value. code_entry part k value == added_by (code_number part) k value) (λ k part value. true) 16 24 ≡ true
+entries_right : agree_in_fours (λ k part value. code_entry part k value == added_by (code_number part) k value)
+    (λ k part value. true) 16 24 ≡ true
 unfolding agree_in_fours agree_in code_entry code_number added_by added
 entries_right = refl
 
 code_entry-is : (part k value : ℕ) → part < 4 → k < 24 → value < 16 → code_entry part k value ≡ added_by (code_number part) k value
 code_entry-is part k value part_lt k_lt lt =
-    eqb-true _ _ (agree_in_fours-at (λ k part value. code_entry part k value == added_by (code_number part) k value) (λ k part value. true) 16 24
+    eqb-true _ _ (agree_in_fours-at (λ k part value. code_entry part k value == added_by (code_number part) k value)
+    (λ k part value. true) 16 24
     k part value entries_right k_lt part_lt lt)
 
 pub encoded-sums : AreSumsOfBits ENCODED.entries
@@ -95,7 +97,8 @@ abbrev pub sum_bit : List ℕ → ℕ → Bool
 sum_bit octets place = odd_below (λ k. octet_bit octets k && code_bit k place) 96
 
 none : (octets : List ℕ) (place : ℕ) → none_has place 96 ≡ true → sum_bit octets place ≡ false
-none octets place is = odd_below-none (λ k. octet_bit octets k && code_bit k place) 96 (λ k lt. ap (λ b. octet_bit octets k && b) (none_has-at place 96 k is lt) ∙ and_false (octet_bit octets k))
+none octets place is = odd_below-none (λ k. octet_bit octets k && code_bit k place) 96
+    (λ k lt. ap (λ b. octet_bit octets k && b) (none_has-at place 96 k is lt) ∙ and_false (octet_bit octets k))
 
 -- the four numbers that the table's entries add up to
 abbrev pub code_words : List ℕ → List ℕ
@@ -111,23 +114,30 @@ code_words-after octets q le =
     (λ (lt : q < 256).
     let at : 196 + (q - 196) ≡ q = omega arith in
     packed_bit-code_words octets q lt
-    ∙ none octets q (ap (λ place. none_has place 96) (sym at) ∙ agree_below_at (λ n. none_has (196 + n) 96) (λ _. true) 60 (q - 196) after_right (omega arith)))
-    (λ (past : 256 ≤ q). let gone : get_or (code_words octets) (q / 64) 0 ≡ 0 = get_or_past (code_words octets) (q / 64) 0 (omega arith) in rw (gone, zero-div (2 ^ (63 - q % 64))) refl)
+    ∙ none octets q (ap (λ place. none_has place 96) (sym at) ∙ agree_below_at (λ n. none_has (196 + n) 96) (λ _. true) 60
+    (q - 196) after_right (omega arith)))
+    (λ (past : 256 ≤ q). let gone : get_or (code_words octets) (q / 64) 0 ≡ 0 = get_or_past (code_words octets) (q / 64) 0 (omega arith) in
+    rw (gone, zero-div (2 ^ (63 - q % 64))) refl)
     (cases_lt q 256)
 
 -- a word with the bits of those numbers is the encoding
-pub encoding-is : (octets : List ℕ) (word : List Bool) → length word ≡ 196 → ((q : ℕ) → word_bit word q ≡ packed_bit (code_words octets) q) → IsEncoding octets word
+pub encoding-is : (octets : List ℕ) (word : List Bool) → length word ≡ 196 →
+    ((q : ℕ) → word_bit word q ≡ packed_bit (code_words octets) q) → IsEncoding octets word
 encoding-is octets word len bits =
-    let is : (row column : ℕ) → cell word row column ≡ sum_bit octets (place_of row column) = λ row column. bits (place_of row column) ∙ packed_bit-code_words octets (place_of row column) (omega arith) in
+    let is : (row column : ℕ) → cell word row column ≡ sum_bit octets (place_of row column) = λ row column. bits (place_of row column)
+    ∙ packed_bit-code_words octets (place_of row column) (omega arith) in
     record {
       is_codeword = codeword-from_sum (octet_bit octets) code_bit 96 word len is
           (λ k row k_lt lt. eqb-true _ _ (agree_in-at (λ k row. row_syndrome k row == 0) (λ k row. true) 13 96 k row rows_right k_lt lt))
-          (λ k column k_lt lt. eqb-true _ _ (agree_in-at (λ k column. column_syndrome k column == 0) (λ k column. true) 15 96 k column columns_right k_lt lt));
+          (λ k column k_lt lt. eqb-true _ _
+          (agree_in-at (λ k column. column_syndrome k column == 0) (λ k column. true) 15 96 k column columns_right k_lt lt));
       information = λ j lt. sym (
           is ((j + 3) / 11) ((j + 3) % 11)
-          ∙ odd_below-same (λ k. octet_bit octets k && code_bit k (place_of ((j + 3) / 11) ((j + 3) % 11))) (λ k. octet_bit octets k && (j == k)) 96
+          ∙ odd_below-same (λ k. octet_bit octets k && code_bit k (place_of ((j + 3) / 11) ((j + 3) % 11)))
+          (λ k. octet_bit octets k && (j == k)) 96
           (λ k k_lt. ap (λ b. octet_bit octets k && b) (agree_in-at in_cell_of (λ j k. j == k) 96 96 j k information_right lt k_lt))
           ∙ odd_below-one (octet_bit octets) j 96 lt);
       free = bits 0 ∙ packed_bit-code_words octets 0 (omega arith) ∙ none octets 0 free_right;
-      reserved = λ column lt. is 0 column ∙ none octets (place_of 0 column) (agree_below_at (λ column. none_has (place_of 0 column) 96) (λ _. true) 3 column reserved_right lt);
+      reserved = λ column lt. is 0 column ∙ none octets (place_of 0 column)
+          (agree_below_at (λ column. none_has (place_of 0 column) 96) (λ _. true) 3 column reserved_right lt);
     }

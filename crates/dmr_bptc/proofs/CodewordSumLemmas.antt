@@ -20,9 +20,11 @@ four_numbers f (suc (suc (suc (suc n)))) lt = absurd (omega arith)
 
 -- a bit of the four numbers that the set bits of octets add up to
 pub bit-of_sum : (entries : List (List (List ℕ))) (octets : List ℕ) (n place : ℕ) → place < 256
-    → packed_bit (numbers_added entries octets n) place ≡ odd_below (λ k. octet_bit octets k && (bit_at (number_of_bit entries (place / 64) k) (63 - place % 64) == 1)) n
+    → packed_bit (numbers_added entries octets n) place ≡ odd_below
+    (λ k. octet_bit octets k && (bit_at (number_of_bit entries (place / 64) k) (63 - place % 64) == 1)) n
 bit-of_sum entries octets n place lt =
-    ap (λ m. m / 2 ^ (63 - place % 64) % 2 == 1) (four_numbers (λ part. added (octet_bit octets) (number_of_bit entries part) n) (place / 64) (omega arith))
+    ap (λ m. m / 2 ^ (63 - place % 64) % 2 == 1)
+    (four_numbers (λ part. added (octet_bit octets) (number_of_bit entries part) n) (place / 64) (omega arith))
     ∙ added-bit (octet_bit octets) (number_of_bit entries (place / 64)) (63 - place % 64) n
 
 -- a word is a codeword if each of its bits is a sum of the bits there of codewords; `code k` is that of summand k
@@ -33,10 +35,12 @@ pub codeword-from_sum : (bit : ℕ → Bool) (code : ℕ → ℕ → Bool) (n : 
     → IsCodeword word
 codeword-from_sum bit code n word len is rows columns = record {
   len = len;
-  rows = λ row lt. satisfies-same row_equations (λ column. cell word row column) (λ column. odd_below (λ k. bit k && code k (place_of row column)) n) 15 row_indices (λ column _. is row column)
+  rows = λ row lt. satisfies-same row_equations (λ column. cell word row column)
+      (λ column. odd_below (λ k. bit k && code k (place_of row column)) n) 15 row_indices (λ column _. is row column)
       (satisfies-odd_below row_equations bit (λ k column. code k (place_of row column)) n (λ k k_lt.
       satisfies-from_syndrome row_equations (λ column. code k (place_of row column)) (rows k row k_lt lt)));
-  columns = λ column lt. satisfies-same column_equations (λ row. cell word row column) (λ row. odd_below (λ k. bit k && code k (place_of row column)) n) 13 column_indices (λ row _. is row column)
+  columns = λ column lt. satisfies-same column_equations (λ row. cell word row column)
+      (λ row. odd_below (λ k. bit k && code k (place_of row column)) n) 13 column_indices (λ row _. is row column)
       (satisfies-odd_below column_equations bit (λ k row. code k (place_of row column)) n (λ k k_lt.
       satisfies-from_syndrome column_equations (λ row. code k (place_of row column)) (columns k column k_lt lt)));
 }

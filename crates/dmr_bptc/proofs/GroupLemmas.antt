@@ -29,7 +29,8 @@ module _ (entries : List (List (List ℕ))) (sums : AreSumsOfBits entries) (octe
   abbrev added_to : ℕ → ℕ
   added_to n = added (octet_bit octets) (number_of_bit entries part) n
 
-  group_step : (group value sum : ℕ) → group < length entries → value < 16 → value ≡ bits_value (octet_bit octets) (4 * group) 4 → sum ≡ added_to (4 * group)
+  group_step : (group value sum : ℕ) → group < length entries → value < 16 → value ≡ bits_value (octet_bit octets) (4 * group) 4 →
+      sum ≡ added_to (4 * group)
       → bit_xor sum (number_at entries part group value) ≡ added_to (4 * (group + 1))
   unfolding added_by
   group_step group value sum group_lt small is so_far =
@@ -38,9 +39,11 @@ module _ (entries : List (List (List ℕ))) (sums : AreSumsOfBits entries) (octe
       (sums part group value part_lt group_lt small ∙ ap (added_by (number_of_bit entries part) group) is)
 
   -- the two halves of an octet are added at once
-  pub octet_step : (k upper lower sum : ℕ) → 2 * k + 1 < length entries → get_or octets k 0 < 256 → upper ≡ get_or octets k 0 / 2 ^ 4 → lower ≡ bit_and (get_or octets k 0) 15
+  pub octet_step : (k upper lower sum : ℕ) → 2 * k + 1 < length entries → get_or octets k 0 < 256 → upper ≡ get_or octets k 0 / 2 ^ 4 →
+      lower ≡ bit_and (get_or octets k 0) 15
       → sum ≡ added (octet_bit octets) (number_of_bit entries part) (8 * k)
-      → bit_xor sum (bit_xor (number_at entries part (2 * k) upper) (number_at entries part (2 * k + 1) lower)) ≡ added (octet_bit octets) (number_of_bit entries part) (8 * (k + 1))
+      → bit_xor sum (bit_xor (number_at entries part (2 * k) upper) (number_at entries part (2 * k + 1) lower)) ≡ added (octet_bit octets)
+      (number_of_bit entries part) (8 * (k + 1))
   octet_step k upper lower sum k_lt small upper_is lower_is so_far =
       let begin : 8 * k ≡ 4 * (2 * k) = omega arith in
       let end : 4 * (2 * k + 1 + 1) ≡ 8 * (k + 1) = omega arith in

@@ -53,28 +53,37 @@ even-from n is = by_rest (n % 2) refl
     by_rest (suc (suc m)) e = absurd (omega arith)
 
 -- the number of bits set under a mask with an equation's coefficients is odd exactly if the line fails the equation
-under_mask : (word : List Bool) (mask : List ℕ) (line : GridLine) (e : ℕ × List ℕ) → ((place : ℕ) → place < 196 → packed_bit mask place ≡ coefficient line e place)
+under_mask : (word : List Bool) (mask : List ℕ) (line : GridLine) (e : ℕ × List ℕ) →
+    ((place : ℕ) → place < 196 → packed_bit mask place ≡ coefficient line e place)
     → (set_under word mask % 2 == 1) ≡ parity (line_bit word line) (e.0 ∷ e.1)
 under_mask word mask line e is =
     count_odd (λ place. word_bit word place && packed_bit mask place) 196
-    ∙ odd_below-same (λ place. word_bit word place && packed_bit mask place) (λ place. word_bit word place && coefficient line e place) 196 (λ q lt. ap (λ b. word_bit word q && b) (is q lt))
+    ∙ odd_below-same (λ place. word_bit word place && packed_bit mask place) (λ place. word_bit word place && coefficient line e place) 196
+    (λ q lt. ap (λ b. word_bit word q && b) (is q lt))
     ∙ odd_below-parity (word_bit word) (line_place line) 196 (line_place-lt line) (e.0 ∷ e.1)
 
 -- the counts under the masks of a line's equations are even exactly if the line satisfies the equations
 module _ (word : List Bool) (line : GridLine) (masks : List (List ℕ))
-    (are : (e place : ℕ) → e < 4 → place < 196 → packed_bit (get_or masks e []) place ≡ coefficient line (equation_at (equations_of line) e) place) where
-  is_under : (e : ℕ) → e < 4 → (set_under word (get_or masks e []) % 2 == 1) ≡ add_bits (line_bit word line (equation_at (equations_of line) e).0) (parity (line_bit word line) (equation_at (equations_of line) e).1)
+    (are : (e place : ℕ) → e < 4 → place < 196 → packed_bit (get_or masks e []) place ≡ coefficient line
+    (equation_at (equations_of line) e) place) where
+  is_under : (e : ℕ) → e < 4 → (set_under word (get_or masks e []) % 2 == 1) ≡ add_bits
+      (line_bit word line (equation_at (equations_of line) e).0) (parity (line_bit word line) (equation_at (equations_of line) e).1)
   is_under e lt = under_mask word (get_or masks e []) line (equation_at (equations_of line) e) (λ place place_lt. are e place lt place_lt)
 
-  pub satisfies-from_even : ((e : ℕ) → e < 4 → set_under word (get_or masks e []) % 2 ≡ 0) → Satisfies (equations_of line) (line_bit word line)
+  pub satisfies-from_even : ((e : ℕ) → e < 4 → set_under word (get_or masks e []) % 2 ≡ 0) →
+      Satisfies (equations_of line) (line_bit word line)
   satisfies-from_even even = satisfies-from_each (equations_of line) (line_bit word line) (λ e lt.
       let within : e < 4 = omega (arith, (line_table line).len) in
-      add_bits-zero (line_bit word line (equation_at (equations_of line) e).0) (parity (line_bit word line) (equation_at (equations_of line) e).1)
+      add_bits-zero (line_bit word line (equation_at (equations_of line) e).0)
+      (parity (line_bit word line) (equation_at (equations_of line) e).1)
       (sym (is_under e within) ∙ ap (λ n. n == 1) (even e within)))
 
-  pub even-from_satisfies : Satisfies (equations_of line) (line_bit word line) → (e : ℕ) → e < 4 → set_under word (get_or masks e []) % 2 ≡ 0
+  pub even-from_satisfies : Satisfies (equations_of line) (line_bit word line) → (e : ℕ) → e < 4 →
+      set_under word (get_or masks e []) % 2 ≡ 0
   even-from_satisfies satisfies e lt =
-      even-from (set_under word (get_or masks e [])) (is_under e lt ∙ add_bits-same (line_bit word line (equation_at (equations_of line) e).0) (parity (line_bit word line) (equation_at (equations_of line) e).1)
+      even-from (set_under word (get_or masks e []))
+      (is_under e lt ∙ add_bits-same (line_bit word line (equation_at (equations_of line) e).0)
+      (parity (line_bit word line) (equation_at (equations_of line) e).1)
       (satisfies_at (equations_of line) (line_bit word line) satisfies e (omega (arith, (line_table line).len))))
 
 pub row_masks : (row : ℕ) → row < 13 → (e place : ℕ) → e < 4 → place < 196 →

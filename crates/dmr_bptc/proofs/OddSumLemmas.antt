@@ -29,7 +29,8 @@ odd_below-none p (suc n) none = rw (none n (omega arith)) (odd_below-none p n (�
 odd_below-add : (p r : ℕ → Bool) (n : ℕ) → odd_below (λ q. add_bits (p q) (r q)) n ≡ add_bits (odd_below p n) (odd_below r n)
 unfolding odd_below
 odd_below-add p r zero = refl
-odd_below-add p r (suc n) = ap (add_bits (add_bits (p n) (r n))) (odd_below-add p r n) ∙ add_bits_middle (p n) (r n) (odd_below p n) (odd_below r n)
+odd_below-add p r (suc n) =
+    ap (add_bits (add_bits (p n) (r n))) (odd_below-add p r n) ∙ add_bits_middle (p n) (r n) (odd_below p n) (odd_below r n)
 
 and_true : (a : Bool) → (a && true) ≡ a
 and_true true = refl
@@ -52,7 +53,9 @@ odd_below-one f place (suc n) lt =
     (λ (e : place ≡ n).
     let here : (place == n) ≡ true = eq-eqb place n e in
     let none : odd_below (λ q. f q && (place == q)) n ≡ false =
-    odd_below-none (λ q. f q && (place == q)) n (λ q q_lt. let miss : (place == q) ≡ false = ne_eqb place q (λ same. absurd (omega arith)) in ap (λ b. f q && b) miss ∙ and_false (f q)) in
+    odd_below-none (λ q. f q && (place == q)) n
+    (λ q q_lt. let miss : (place == q) ≡ false = ne_eqb place q (λ same. absurd (omega arith)) in ap (λ b. f q && b) miss
+    ∙ and_false (f q)) in
     (λ i. add_bits (f n && here i) (none i)) ∙ add_bits-false (f n && true) ∙ and_true (f n) ∙ ap f (sym e))
     (λ (ne : place ≡ n → ⊥).
     let miss : (place == n) ≡ false = ne_eqb place n ne in
@@ -64,24 +67,29 @@ pub odd_below-parity : (f : ℕ → Bool) (place : ℕ → ℕ) (n : ℕ) → ((
     → odd_below (λ q. f q && parity (λ k. place k == q) ks) n ≡ parity (λ k. f (place k)) ks
 odd_below-parity f place n inside [] = odd_below-none (λ q. f q && false) n (λ q lt. and_false (f q))
 odd_below-parity f place n inside (k ∷ ks) =
-    odd_below-same (λ q. f q && add_bits (place k == q) (parity (λ k. place k == q) ks)) (λ q. add_bits (f q && (place k == q)) (f q && parity (λ k. place k == q) ks)) n
+    odd_below-same (λ q. f q && add_bits (place k == q) (parity (λ k. place k == q) ks))
+    (λ q. add_bits (f q && (place k == q)) (f q && parity (λ k. place k == q) ks)) n
     (λ q lt. and_add (f q) (place k == q) (parity (λ k. place k == q) ks))
     ∙ odd_below-add (λ q. f q && (place k == q)) (λ q. f q && parity (λ k. place k == q) ks) n
     ∙ (λ i. add_bits (odd_below-one f (place k) n (inside k) i) (odd_below-parity f place n inside ks i))
 
 -- the order of a sum of sums of lines may be exchanged
-odd_below-swap : (bit : ℕ → Bool) (f : ℕ → ℕ → Bool) (n : ℕ) (js : List ℕ) → odd_below (λ k. bit k && parity (f k) js) n ≡ parity (λ j. odd_below (λ k. bit k && f k j) n) js
+odd_below-swap : (bit : ℕ → Bool) (f : ℕ → ℕ → Bool) (n : ℕ) (js : List ℕ) →
+    odd_below (λ k. bit k && parity (f k) js) n ≡ parity (λ j. odd_below (λ k. bit k && f k j) n) js
 odd_below-swap bit f n [] = odd_below-none (λ k. bit k && false) n (λ k lt. and_false (bit k))
 odd_below-swap bit f n (j ∷ js) =
-    odd_below-same (λ k. bit k && add_bits (f k j) (parity (f k) js)) (λ k. add_bits (bit k && f k j) (bit k && parity (f k) js)) n (λ k lt. and_add (bit k) (f k j) (parity (f k) js))
+    odd_below-same (λ k. bit k && add_bits (f k j) (parity (f k) js)) (λ k. add_bits (bit k && f k j) (bit k && parity (f k) js)) n
+    (λ k lt. and_add (bit k) (f k j) (parity (f k) js))
     ∙ odd_below-add (λ k. bit k && f k j) (λ k. bit k && parity (f k) js) n
     ∙ ap (add_bits (odd_below (λ k. bit k && f k j) n)) (odd_below-swap bit f n js)
 
 -- a sum of lines that satisfy equations satisfies them
-pub satisfies-odd_below : (es : List (ℕ × List ℕ)) (bit : ℕ → Bool) (f : ℕ → ℕ → Bool) (n : ℕ) → ((k : ℕ) → k < n → Satisfies es (f k)) → Satisfies es (λ j. odd_below (λ k. bit k && f k j) n)
+pub satisfies-odd_below : (es : List (ℕ × List ℕ)) (bit : ℕ → Bool) (f : ℕ → ℕ → Bool) (n : ℕ) → ((k : ℕ) → k < n → Satisfies es (f k)) →
+    Satisfies es (λ j. odd_below (λ k. bit k && f k j) n)
 satisfies-odd_below [] bit f n each = tt
 satisfies-odd_below (e ∷ es) bit f n each = (
-  odd_below-same (λ k. bit k && f k e.0) (λ k. bit k && parity (f k) e.1) n (λ k lt. ap (λ b. bit k && b) (each k lt).0) ∙ odd_below-swap bit f n e.1,
+  odd_below-same (λ k. bit k && f k e.0) (λ k. bit k && parity (f k) e.1) n (λ k lt. ap (λ b. bit k && b) (each k lt).0)
+      ∙ odd_below-swap bit f n e.1,
   satisfies-odd_below es bit f n (λ k lt. (each k lt).1),
 )
 
@@ -104,7 +112,8 @@ cond-lt : (b : Bool) (m n : ℕ) → m < 2 ^ n → cond b m 0 < 2 ^ n
 cond-lt true m n lt = lt
 cond-lt false m n lt = pow_pos n
 
-pub added-bit : (bit : ℕ → Bool) (number : ℕ → ℕ) (j n : ℕ) → (bit_at (added bit number n) j == 1) ≡ odd_below (λ k. bit k && (bit_at (number k) j == 1)) n
+pub added-bit : (bit : ℕ → Bool) (number : ℕ → ℕ) (j n : ℕ) → (bit_at (added bit number n) j == 1) ≡ odd_below
+    (λ k. bit k && (bit_at (number k) j == 1)) n
 unfolding added odd_below
 added-bit bit number j zero = ap (λ n. n == 1) (bit_at-zero j)
 added-bit bit number j (suc n) =
@@ -116,9 +125,11 @@ pub added-lt : (bit : ℕ → Bool) (number : ℕ → ℕ) (m n : ℕ) → ((k :
 unfolding added
 added-lt bit number m zero small = pow_pos m
 added-lt bit number m (suc n) small =
-    xor_lt m (added bit number n) (cond (bit n) (number n) 0) (added-lt bit number m n (λ k lt. small k (omega arith))) (cond-lt (bit n) (number n) m (small n (omega arith)))
+    xor_lt m (added bit number n) (cond (bit n) (number n) 0) (added-lt bit number m n (λ k lt. small k (omega arith)))
+    (cond-lt (bit n) (number n) m (small n (omega arith)))
 
-added-split : (bit : ℕ → Bool) (number : ℕ → ℕ) (a n : ℕ) → added bit number (a + n) ≡ bit_xor (added bit number a) (added (λ j. bit (a + j)) (λ j. number (a + j)) n)
+added-split : (bit : ℕ → Bool) (number : ℕ → ℕ) (a n : ℕ) → added bit number (a + n) ≡ bit_xor (added bit number a)
+    (added (λ j. bit (a + j)) (λ j. number (a + j)) n)
 unfolding added
 added-split bit number a zero = let e : a + 0 ≡ a = omega arith in ap (added bit number) e ∙ sym (xor_zero_r (added bit number a))
 added-split bit number a (suc n) =
@@ -130,14 +141,16 @@ added-split bit number a (suc n) =
 added-same : (p r : ℕ → Bool) (number : ℕ → ℕ) (n : ℕ) → ((k : ℕ) → k < n → p k ≡ r k) → added p number n ≡ added r number n
 unfolding added
 added-same p r number zero same = refl
-added-same p r number (suc n) same = (λ i. bit_xor (added-same p r number n (λ k lt. same k (omega arith)) i) (cond (same n (omega arith) i) (number n) 0))
+added-same p r number (suc n) same =
+    (λ i. bit_xor (added-same p r number n (λ k lt. same k (omega arith)) i) (cond (same n (omega arith) i) (number n) 0))
 
 -- the number that four bits add, by their value
 unfoldable pub added_by : (ℕ → ℕ) → ℕ → ℕ → ℕ
 added_by number k value = added (λ j. value / 2 ^ (3 - j) % 2 == 1) (λ j. number (4 * k + j)) 4
 
 -- four bits are added at once
-pub added-four : (bit : ℕ → Bool) (number : ℕ → ℕ) (k entry : ℕ) → entry ≡ added_by number k (bits_value bit (4 * k) 4) → bit_xor (added bit number (4 * k)) entry ≡ added bit number (4 * (k + 1))
+pub added-four : (bit : ℕ → Bool) (number : ℕ → ℕ) (k entry : ℕ) → entry ≡ added_by number k (bits_value bit (4 * k) 4) →
+    bit_xor (added bit number (4 * k)) entry ≡ added bit number (4 * (k + 1))
 unfolding added_by
 added-four bit number k entry is =
     let e : 4 * k + 4 ≡ 4 * (k + 1) = omega arith in

@@ -27,13 +27,15 @@ unfoldable pub sum_number : ℕ → ℕ → ℕ
 sum_number part place = get_or (get_or (get_or SUMS.entries (place / 4) []) (2 ^ (3 - place % 4)) []) part 0
 
 -- the entries of a group of four add the same as its places one by one
-entries_right : agree_in_fours (λ k part value. sum_entry part k value == added_by (sum_number part) k value) (λ k part value. true) 16 49 ≡ true
+entries_right : agree_in_fours (λ k part value. sum_entry part k value == added_by (sum_number part) k value)
+    (λ k part value. true) 16 49 ≡ true
 unfolding agree_in_fours agree_in sum_entry sum_number added_by added
 entries_right = refl
 
 pub sum_entry-is : (part k value : ℕ) → part < 4 → k < 49 → value < 16 → sum_entry part k value ≡ added_by (sum_number part) k value
 sum_entry-is part k value part_lt k_lt lt =
-    eqb-true _ _ (agree_in_fours-at (λ k part value. sum_entry part k value == added_by (sum_number part) k value) (λ k part value. true) 16 49
+    eqb-true _ _ (agree_in_fours-at (λ k part value. sum_entry part k value == added_by (sum_number part) k value)
+    (λ k part value. true) 16 49
     k part value entries_right k_lt part_lt lt)
 
 -- ---- syndromes
@@ -76,7 +78,8 @@ bit_cond (suc zero) lt = refl
 bit_cond (suc (suc m)) lt = absurd (omega arith)
 
 pub syndrome-four : (line : GridLine) (bit : ℕ → Bool)
-    → 8 * fails bit (equation_at (equations_of line) 0) + 4 * fails bit (equation_at (equations_of line) 1) + 2 * fails bit (equation_at (equations_of line) 2) + fails bit (equation_at (equations_of line) 3) ≡ syndrome (equations_of line) bit
+    → 8 * fails bit (equation_at (equations_of line) 0) + 4 * fails bit (equation_at (equations_of line) 1) + 2 * fails bit
+    (equation_at (equations_of line) 2) + fails bit (equation_at (equations_of line) 3) ≡ syndrome (equations_of line) bit
 unfolding row_equations column_equations
 syndrome-four (Row row) bit = omega arith
 syndrome-four (Column column) bit = omega arith
@@ -90,7 +93,8 @@ failure_bit word line e number j is =
     bit_cond (bit_at (added (word_bit word) number 196) j) (omega arith)
     ∙ ap (λ b. cond b 1 0)
     (added-bit (word_bit word) number j 196
-    ∙ odd_below-same (λ q. word_bit word q && (bit_at (number q) j == 1)) (λ q. word_bit word q && coefficient line e q) 196 (λ q lt. ap (λ b. word_bit word q && b) (is q lt))
+    ∙ odd_below-same (λ q. word_bit word q && (bit_at (number q) j == 1)) (λ q. word_bit word q && coefficient line e q) 196
+    (λ q lt. ap (λ b. word_bit word q && b) (is q lt))
     ∙ odd_below-parity (word_bit word) (line_place line) 196 (line_place-lt line) (e.0 ∷ e.1))
 
 -- four bits of a number, by their places
@@ -104,18 +108,30 @@ four_of n s =
 
 -- four bits of the sum are the syndrome of the line
 syndrome_bits : (word : List Bool) (line : GridLine) (number : ℕ → ℕ) (s : ℕ)
-    → ((e place : ℕ) → e < 4 → place < 196 → (bit_at (number place) (s + (3 - e)) == 1) ≡ coefficient line (equation_at (equations_of line) e) place)
+    → ((e place : ℕ) → e < 4 → place < 196 → (bit_at (number place) (s + (3 - e)) == 1) ≡ coefficient line
+    (equation_at (equations_of line) e) place)
     → added (word_bit word) number 196 / 2 ^ s % 16 ≡ syndrome (equations_of line) (line_bit word line)
 syndrome_bits word line number s is =
-    let bit : (e : ℕ) → e < 4 → bit_at (added (word_bit word) number 196) (s + (3 - e)) ≡ fails (line_bit word line) (equation_at (equations_of line) e) =
+    let bit : (e : ℕ) → e < 4 → bit_at (added (word_bit word) number 196) (s + (3 - e)) ≡ fails (line_bit word line)
+    (equation_at (equations_of line) e) =
     λ e lt. failure_bit word line (equation_at (equations_of line) e) number (s + (3 - e)) (λ place place_lt. is e place lt place_lt) in
     four_of (added (word_bit word) number 196) s
-    ∙ omega (arith, bit 0 (omega arith), bit 1 (omega arith), bit 2 (omega arith), bit 3 (omega arith), syndrome-four line (line_bit word line))
+    ∙ omega (
+      arith,
+      bit 0 (omega arith),
+      bit 1 (omega arith),
+      bit 2 (omega arith),
+      bit 3 (omega arith),
+      syndrome-four line (line_bit word line),
+    )
 
-pub columns-are : (word : List Bool) (column : ℕ) → column < 15 → added (word_bit word) (sum_number 0) 196 / 2 ^ (4 * column) % 16 ≡ syndrome column_equations (λ row. cell word row column)
-columns-are word column lt = syndrome_bits word (Column column) (sum_number 0) (4 * column) (λ e place e_lt place_lt. column_bit column e place lt e_lt place_lt)
+pub columns-are : (word : List Bool) (column : ℕ) → column < 15 → added (word_bit word) (sum_number 0) 196 / 2 ^
+    (4 * column) % 16 ≡ syndrome column_equations (λ row. cell word row column)
+columns-are word column lt =
+    syndrome_bits word (Column column) (sum_number 0) (4 * column) (λ e place e_lt place_lt. column_bit column e place lt e_lt place_lt)
 
-pub rows-are : (word : List Bool) (row : ℕ) → row < 13 → added (word_bit word) (sum_number 1) 196 / 2 ^ (4 * row) % 16 ≡ syndrome row_equations (λ column. cell word row column)
+pub rows-are : (word : List Bool) (row : ℕ) → row < 13 → added (word_bit word) (sum_number 1) 196 / 2 ^
+    (4 * row) % 16 ≡ syndrome row_equations (λ column. cell word row column)
 rows-are word row lt = syndrome_bits word (Row row) (sum_number 1) (4 * row) (λ e place e_lt place_lt. row_bit row e place lt e_lt place_lt)
 
 -- ---- bounds
@@ -129,10 +145,12 @@ unfolding sum_number
 rows_small = refl
 
 pub column_number-lt : (place : ℕ) → place < 196 → sum_number 0 place < 2 ^ 60
-column_number-lt place lt = ltb-true (sum_number 0 place) (2 ^ 60) (agree_below_at (λ place. ltb (sum_number 0 place) (2 ^ 60)) (λ _. true) 196 place columns_small lt)
+column_number-lt place lt = ltb-true (sum_number 0 place) (2 ^ 60)
+    (agree_below_at (λ place. ltb (sum_number 0 place) (2 ^ 60)) (λ _. true) 196 place columns_small lt)
 
 pub row_number-lt : (place : ℕ) → place < 196 → sum_number 1 place < 2 ^ 52
-row_number-lt place lt = ltb-true (sum_number 1 place) (2 ^ 52) (agree_below_at (λ place. ltb (sum_number 1 place) (2 ^ 52)) (λ _. true) 196 place rows_small lt)
+row_number-lt place lt =
+    ltb-true (sum_number 1 place) (2 ^ 52) (agree_below_at (λ place. ltb (sum_number 1 place) (2 ^ 52)) (λ _. true) 196 place rows_small lt)
 
 pub columns-lt : (bit : ℕ → Bool) → added bit (sum_number 0) 196 < 2 ^ 60
 columns-lt bit = added-lt bit (sum_number 0) 60 196 column_number-lt
@@ -161,11 +179,13 @@ two_words f (suc zero) lt = refl
 two_words f (suc (suc n)) lt = absurd (omega arith)
 
 pub information-is : (word : List Bool) (k : ℕ) → k < 96
-    → packed_bit (added (word_bit word) (sum_number 2) 196 ∷ added (word_bit word) (sum_number 3) 196 ∷ []) k ≡ cell word ((k + 3) / 11) ((k + 3) % 11)
+    → packed_bit (added (word_bit word) (sum_number 2) 196 ∷ added (word_bit word) (sum_number 3) 196 ∷ []) k ≡ cell word ((k + 3) / 11)
+    ((k + 3) % 11)
 information-is word k lt =
     let place : ℕ = place_of ((k + 3) / 11) ((k + 3) % 11) in
     ap (λ n. n / 2 ^ (63 - k % 64) % 2 == 1) (two_words (λ part. added (word_bit word) (sum_number part) 196) (k / 64) (omega arith))
     ∙ added-bit (word_bit word) (sum_number (2 + k / 64)) (63 - k % 64) 196
-    ∙ odd_below-same (λ q. word_bit word q && (bit_at (sum_number (2 + k / 64) q) (63 - k % 64) == 1)) (λ q. word_bit word q && (place_of ((k + 3) / 11) ((k + 3) % 11) == q)) 196
+    ∙ odd_below-same (λ q. word_bit word q && (bit_at (sum_number (2 + k / 64) q) (63 - k % 64) == 1))
+    (λ q. word_bit word q && (place_of ((k + 3) / 11) ((k + 3) % 11) == q)) 196
     (λ q q_lt. ap (λ b. word_bit word q && b) (information_bit k q lt q_lt))
     ∙ odd_below-one (word_bit word) (place_of ((k + 3) / 11) ((k + 3) % 11)) 196 (omega arith)

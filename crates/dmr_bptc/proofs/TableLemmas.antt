@@ -24,5 +24,6 @@ agree_in_fours-at f g places entries entry part place all entry_lt part_lt lt =
     let of_entry : (4 * entry + part) / 4 ≡ entry = omega arith in
     let of_part : (4 * entry + part) % 4 ≡ part = omega arith in
     (λ i. f (sym of_entry i) (sym of_part i) place)
-    ∙ agree_in-at (λ row. f (row / 4) (row % 4)) (λ row. g (row / 4) (row % 4)) places (4 * entries) (4 * entry + part) place all (omega arith) lt
+    ∙ agree_in-at (λ row. f (row / 4) (row % 4)) (λ row. g (row / 4) (row % 4)) places (4 * entries) (4 * entry + part) place all
+    (omega arith) lt
     ∙ (λ i. g (of_entry i) (of_part i) place)

@@ -45,7 +45,8 @@ module _ (word : List Bool) (columns rows : ℕ) (len : length word ≡ 196)
 
   pub sums-from_codeword : columns < 2 ^ 60 → rows < 2 ^ 52 → IsCodeword word → (columns ≡ 0) × (rows ≡ 0)
   sums-from_codeword columns_lt rows_lt is = (
-    digits_zero 15 columns columns_lt (λ k lt. columns_are k lt ∙ syndrome-zero column_equations (λ row. cell word row k) (is.columns k lt)),
+    digits_zero 15 columns columns_lt
+        (λ k lt. columns_are k lt ∙ syndrome-zero column_equations (λ row. cell word row k) (is.columns k lt)),
     digits_zero 13 rows rows_lt (λ k lt. rows_are k lt ∙ syndrome-zero row_equations (λ column. cell word k column) (is.rows k lt)),
   )
 
@@ -53,8 +54,10 @@ module _ (word : List Bool) (columns rows : ℕ) (len : length word ≡ 196)
 pub codeword-same : (x y : List Bool) → length x ≡ 196 → HasSameCells x y → IsCodeword y → IsCodeword x
 codeword-same x y len same is = record {
   len = len;
-  rows = λ row lt. satisfies-same row_equations (λ column. cell x row column) (λ column. cell y row column) 15 row_indices (λ k k_lt. same row k lt k_lt) (is.rows row lt);
-  columns = λ column lt. satisfies-same column_equations (λ row. cell x row column) (λ row. cell y row column) 13 column_indices (λ k k_lt. same k column k_lt lt) (is.columns column lt);
+  rows = λ row lt. satisfies-same row_equations (λ column. cell x row column) (λ column. cell y row column) 15 row_indices
+      (λ k k_lt. same row k lt k_lt) (is.rows row lt);
+  columns = λ column lt. satisfies-same column_equations (λ row. cell x row column) (λ row. cell y row column) 13 column_indices
+      (λ k k_lt. same k column k_lt lt) (is.columns column lt);
 }
 
 -- at most three columns fail of a word that differs from a codeword in at most three places: each has one of them
@@ -63,15 +66,18 @@ pub few_columns_fail : (word codeword : List Bool) (columns : ℕ) → columns <
     → IsCodeword codeword → distance word codeword ≤ 3 → failing_lines columns ≤ 3
 few_columns_fail word codeword columns fits are is near =
     let all : failing_lines columns ≡ count_below (line_fails columns) 15 =
-    count_from-zero (line_fails columns) 16 ∙ count_below-rest (line_fails columns) 15 16 (omega arith) (λ column le lt. holds-not columns column (past-none columns 15 column fits le)) in
+    count_from-zero (line_fails columns) 16 ∙ count_below-rest (line_fails columns) 15 16 (omega arith)
+    (λ column le lt. holds-not columns column (past-none columns 15 column fits le)) in
     let each : 1 * count_below (line_fails columns) 15 ≤ sum_below (column_errors word codeword) 15 =
     sum_below-at_least (column_errors word codeword) (line_fails columns) 1 15 (λ column lt fails.
     ⊎_elim
     (λ (none : column_errors word codeword column < 1).
     let same : (row : ℕ) → row < 13 → cell word row column ≡ cell codeword row column =
-    λ row row_lt. add_bits-zero (cell word row column) (cell codeword row column) (count_below-zero (λ row. add_bits (cell word row column) (cell codeword row column)) 13 (omega arith) row row_lt) in
+    λ row row_lt. add_bits-zero (cell word row column) (cell codeword row column)
+    (count_below-zero (λ row. add_bits (cell word row column) (cell codeword row column)) 13 (omega arith) row row_lt) in
     let holds : syndrome_at columns column ≡ 0 =
-    are column lt ∙ syndrome-same column_equations (λ row. cell word row column) (λ row. cell codeword row column) 13 column_indices same ∙ syndrome-zero column_equations (λ row. cell codeword row column) (is.columns column lt) in
+    are column lt ∙ syndrome-same column_equations (λ row. cell word row column) (λ row. cell codeword row column) 13 column_indices same
+    ∙ syndrome-zero column_equations (λ row. cell codeword row column) (is.columns column lt) in
     absurd (false≢true (sym (holds-not columns column holds) ∙ fails)))
     (λ (some : 1 ≤ column_errors word codeword column). some)
     (cases_lt (column_errors word codeword column) 1)) in

@@ -19,12 +19,14 @@ pub meaning_of-meant : ((word : List Bool) (octets : List ℕ) → IsOctets 12 o
     → (word : List Bool) (pdu : Pdu) → MeansPdu word pdu → meaning_of word ≡ Some pdu
 unfolding meaning_of
 meaning_of-meant decodes are_twelve opens agrees word pdu means =
-    let found : decoding_of word ≡ Some (with_check means.0) = decodes word (with_check means.0) (are_twelve means.0 means.1.are_octets) means.1.means in
+    let found : decoding_of word ≡ Some (with_check means.0) =
+    decodes word (with_check means.0) (are_twelve means.0 means.1.are_octets) means.1.means in
     ap (λ (o : Option (List ℕ)). option_map pdu_of (option_and_then without_check o)) found
     ∙ ap (option_map pdu_of) (opens means.0 means.1.are_octets)
     ∙ ap Some (sym ((agrees means.0 pdu).0 means.1.agrees))
 
-from_opened : ((octets : List ℕ) (pdu : Pdu) → Agrees pdu octets ↔ pdu ≡ pdu_of octets) → (word : List Bool) (sealed : List ℕ) (o : Option (List ℕ)) → Means 3 word sealed
+from_opened : ((octets : List ℕ) (pdu : Pdu) → Agrees pdu octets ↔ pdu ≡ pdu_of octets) →
+    (word : List Bool) (sealed : List ℕ) (o : Option (List ℕ)) → Means 3 word sealed
     → IfSome o (λ octets. IsOctets 10 octets × (sealed ≡ with_check octets)) → IfSome (option_map pdu_of o) (MeansPdu word)
 from_opened agrees word sealed None means told = tt
 from_opened agrees word sealed (Some octets) means told =
@@ -38,12 +40,14 @@ pub meaning_of-found : ((word : List Bool) → IfSome (decoding_of word) (λ oct
 unfolding meaning_of
 meaning_of-found decoded opened agrees word = from_decoded (decoding_of word) (decoded word)
   where
-    from_decoded : (o : Option (List ℕ)) → IfSome o (λ sealed. IsOctets 12 sealed × Means 3 word sealed) → IfSome (option_map pdu_of (option_and_then without_check o)) (MeansPdu word)
+    from_decoded : (o : Option (List ℕ)) → IfSome o (λ sealed. IsOctets 12 sealed × Means 3 word sealed) →
+        IfSome (option_map pdu_of (option_and_then without_check o)) (MeansPdu word)
     from_decoded None told = tt
     from_decoded (Some sealed) told = from_opened agrees word sealed (without_check sealed) told.1 (opened sealed told.0)
 
 -- the meaning of a word is its decoding, opened and read
-pub meaning_of-decoded : (word : List Bool) (decoding : Option (List ℕ)) → decoding ≡ decoding_of word → option_map pdu_of (option_and_then without_check decoding) ≡ meaning_of word
+pub meaning_of-decoded : (word : List Bool) (decoding : Option (List ℕ)) → decoding ≡ decoding_of word →
+    option_map pdu_of (option_and_then without_check decoding) ≡ meaning_of word
 unfolding meaning_of
 meaning_of-decoded word decoding is = ap (λ (o : Option (List ℕ)). option_map pdu_of (option_and_then without_check o)) is
 

@@ -67,7 +67,8 @@ most_terms : faults_in (codes "dmr_trunk" ∷ codes "--site" ∷ codes "a.toml" 
 unfolding clap_on_literals faults_in
 most_terms = refl
 
-too_many_terms : faults_in (codes "dmr_trunk" ∷ codes "--site" ∷ codes "a.toml" ∷ codes "--serve" ∷ codes "--terms" ∷ codes "1000001" ∷ []) ≡ ValueValidation ∷ []
+too_many_terms : faults_in (codes "dmr_trunk" ∷ codes "--site" ∷ codes "a.toml" ∷ codes "--serve" ∷ codes "--terms" ∷ codes "1000001" ∷ [])
+    ≡ ValueValidation ∷ []
 unfolding clap_on_literals faults_in
 too_many_terms = refl
 

@@ -25,8 +25,12 @@ pub record IsOption (a : Arg) (id : List ℕ) : Type 0 where
   pub local : a.global ≡ false
 
 fits : (a : Arg) (id : List ℕ) → IsOption a id → (id ≡ [] → ⊥) → (id ≡ codes "help" → ⊥) → (id ≡ codes "version" → ⊥) → FitsChain a
-fits a id is some no_help no_version =
-    (is.plain, is.local, (λ e. some (sym is.id_is ∙ e)), (λ auto. elim auto [ inl e ↦ no_help (sym is.id_is ∙ e) | inr e ↦ no_version (sym is.id_is ∙ e) ]))
+fits a id is some no_help no_version = (
+  is.plain,
+  is.local,
+  (λ e. some (sym is.id_is ∙ e)),
+  (λ auto. elim auto [ inl e ↦ no_help (sym is.id_is ∙ e) | inr e ↦ no_version (sym is.id_is ∙ e) ]),
+)
 
 apart : (xs ys : List ℕ) → bytes_eq xs ys ≡ false → xs ≡ ys → ⊥
 apart xs ys unequal e = false≢true (sym unequal ∙ (bytes_eq-Decides xs ys).1 e)
@@ -34,7 +38,8 @@ apart xs ys unequal e = false≢true (sym unequal ∙ (bytes_eq-Decides xs ys).1
 ids_apart : (a b : Arg) (x y : List ℕ) → a.id.now ≡ x → b.id.now ≡ y → bytes_eq x y ≡ false → bytes_eq a.id.now b.id.now ≡ true → ⊥
 ids_apart a b x y is other unequal e = apart x y unequal (sym is ∙ (bytes_eq-Decides a.id.now b.id.now).0 e ∙ other)
 
-module _ (a b d f : Arg) (is_site : IsOption a (codes "site")) (is_script : IsOption b (codes "script")) (is_serve : IsOption d (codes "serve")) (is_terms : IsOption f (codes "terms")) where
+module _ (a b d f : Arg) (is_site : IsOption a (codes "site")) (is_script : IsOption b (codes "script"))
+    (is_serve : IsOption d (codes "serve")) (is_terms : IsOption f (codes "terms")) where
   all : All FitsChain (a ∷ b ∷ d ∷ f ∷ [])
   all zero x lt = fits a (codes "site") is_site (apart _ _ refl) (apart _ _ refl) (apart _ _ refl)
   all (suc zero) x lt = fits b (codes "script") is_script (apart _ _ refl) (apart _ _ refl) (apart _ _ refl)
@@ -62,19 +67,23 @@ module _ (a b d f : Arg) (is_site : IsOption a (codes "site")) (is_script : IsOp
   distinct (suc (suc (suc (suc j)))) k x y lt l same = absurd (omega arith)
   distinct j (suc (suc (suc (suc k)))) x y l lt same = absurd (omega arith)
 
-  module _ (start one two three cmd : Command) (first : AddsArg start a one) (second : AddsArg one b two) (third : AddsArg two d three) (fourth : AddsArg three f cmd)
-      (args : args_of start ≡ []) (groups : groups_of start ≡ []) (globals : (out-Command start).has_globals ≡ false) (negates : (out-Command start).subcommand_negates_reqs ≡ false) where
+  module _ (start one two three cmd : Command) (first : AddsArg start a one) (second : AddsArg one b two) (third : AddsArg two d three)
+      (fourth : AddsArg three f cmd)
+      (args : args_of start ≡ []) (groups : groups_of start ≡ []) (globals : (out-Command start).has_globals ≡ false)
+      (negates : (out-Command start).subcommand_negates_reqs ≡ false) where
     chain : AddsInTurn AddsArg start (a ∷ b ∷ d ∷ f ∷ []) cmd
     chain = (one, first, (two, second, (three, third, (cmd, fourth, refl))))
 
     pub site_given : TakesValue a → (m : ArgMatches) → IsParsedFrom cmd m → is_some (first_value (found_of m) (codes "site")) ≡ true
     site_given value m parsed =
-        rw (← is_site.id_is) (required_in_chain start cmd (a ∷ b ∷ d ∷ f ∷ []) 0 a m chain args groups globals negates all distinct (omega arith) value parsed)
+        rw (← is_site.id_is) (required_in_chain start cmd (a ∷ b ∷ d ∷ f ∷ []) 0 a m chain args groups globals negates all distinct
+        (omega arith) value parsed)
 
     app_step : (x y : App) (r t : Rule) → x ≡ y → r ≡ t → with_rule x r ≡ with_rule y t
     app_step x y r t e same = ap (λ (z : App). with_rule z r) e ∙ ap (λ (u : Rule). with_rule y u) same
 
-    pub app_given : app_of start ≡ titled_command → rule_of a ≡ site_option → rule_of b ≡ script_option → rule_of d ≡ serve_flag → rule_of f ≡ terms_option → app_of cmd ≡ command
+    pub app_given : app_of start ≡ titled_command → rule_of a ≡ site_option → rule_of b ≡ script_option → rule_of d ≡ serve_flag →
+        rule_of f ≡ terms_option → app_of cmd ≡ command
     app_given named site script serve terms =
         fourth.shape is_terms.local
         ∙ app_step _ _ _ _ (third.shape is_serve.local
@@ -99,7 +108,8 @@ module _ (app : App) (app_is : app ≡ command) (words : List Text) where
   pub refused_by : (e : Error) → HasKind (fault_of app words) e → (kind_of e ≡ OutOfMemory) ⊎ (faults_in words ≡ [] → ⊥)
   unfolding faults_in
   refused_by e (inl memory) = inl memory
-  refused_by e (inr among) = inr (λ none. (let P : Kinds → Type 0 = IsAmong (kind_of e) in subst P (ap (λ (a : App). fault_of a words) app_is ∙ none) among))
+  refused_by e (inr among) =
+      inr (λ none. (let P : Kinds → Type 0 = IsAmong (kind_of e) in subst P (ap (λ (a : App). fault_of a words) app_is ∙ none) among))
 
   taken_by : fault_of app words ≡ [] → faults_in words ≡ []
   unfolding faults_in
@@ -118,14 +128,17 @@ module _ (app : App) (app_is : app ≡ command) (words : List Text) where
       ∙ ap (λ (a : App). one_of option (matches_of a words)) app_is
 
   -- the values read by a command that requires a site file
-  pub read_by : (m : ArgMatches) → fault_of app words ≡ [] → HasMatchesOf app words m → is_some (first_value (found_of m) (codes "site")) ≡ true → HasRead words m
+  pub read_by : (m : ArgMatches) → fault_of app words ≡ [] → HasMatchesOf app words m →
+      is_some (first_value (found_of m) (codes "site")) ≡ true → HasRead words m
   read_by m none matches site = record { taken = taken_by none; values = values_by m matches; ones = ones_by m matches; site = site }
 
   -- the same of a result
-  pub all_read : (r : Result ArgMatches Error) → FailsBy (fault_of app words) r → IfOk r (HasMatchesOf app words) → IfOk r (λ m. is_some (first_value (found_of m) (codes "site")) ≡ true) → IfOk r (HasRead words)
+  pub all_read : (r : Result ArgMatches Error) → FailsBy (fault_of app words) r → IfOk r (HasMatchesOf app words) →
+      IfOk r (λ m. is_some (first_value (found_of m) (codes "site")) ≡ true) → IfOk r (HasRead words)
   all_read (Ok m) none matches site = read_by m none matches site
   all_read (Err e) why matches site = tt
 
-  pub all_refused : (r : Result ArgMatches Error) → FailsBy (fault_of app words) r → IfErr r (λ e. (kind_of e ≡ OutOfMemory) ⊎ (faults_in words ≡ [] → ⊥))
+  pub all_refused : (r : Result ArgMatches Error) → FailsBy (fault_of app words) r →
+      IfErr r (λ e. (kind_of e ≡ OutOfMemory) ⊎ (faults_in words ≡ [] → ⊥))
   all_refused (Ok m) none = tt
   all_refused (Err e) why = refused_by e why

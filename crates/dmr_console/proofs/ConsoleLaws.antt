@@ -9,7 +9,8 @@ pub use Rattle.dmr_console.proofs.LineLemmas.{lines_whole, rest_whole}
 pub use Rattle.dmr_console.proofs.LineLemmas.{open_without_lf}
 
 -- two pieces produce what the first produces, and then what the second does after the open line that the first leaves
-pub line_steps-append : (begun a b : List ℕ) → line_steps_from begun (a ++ b) ≡ line_steps_from begun a ++ line_steps_from (open_line_after begun a) b
+pub line_steps-append : (begun a b : List ℕ) → line_steps_from begun (a ++ b) ≡ line_steps_from begun a ++ line_steps_from
+    (open_line_after begun a) b
 line_steps-append begun a b = items-append open_line_after_octet line_step_at line_produced begun a b
 
 -- two pieces leave the open line that the second leaves after that of the first

@@ -45,4 +45,5 @@ two_numbers a b command (first ∷ second ∷ []) = by (number_as a first) (numb
     by (Some m) None = refl
     by (Some m) (Some n) = refl
 two_numbers a b command (first ∷ second ∷ third ∷ words) =
-    ap (λ ns. made command (onto (number_as a first) ns)) (nothing_after (number_as b second)) ∙ ap (made command) (nothing_after (number_as a first))
+    ap (λ ns. made command (onto (number_as a first) ns)) (nothing_after (number_as b second))
+    ∙ ap (made command) (nothing_after (number_as a first))

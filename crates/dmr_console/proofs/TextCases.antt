@@ -27,13 +27,16 @@ unfolding digits
 calls = refl
 
 -- places count on from the first
-lines : text_of_reply (Lines 9 (record { source = 1001; target = 91; group = true } ∷ record { source = 1002; target = 1003; group = false } ∷ []))
+lines : text_of_reply (Lines 9 (record { source = 1001; target = 91; group = true } ∷ record
+    { source = 1002; target = 1003; group = false } ∷ []))
     ≡ codes "line 9 group 91 from 1001\nline 10 radio 1003 from 1002\nend\n"
 unfolding digits
 lines = refl
 
-slots : text_of_reply (Slots (record { slot = record { carrier = 0; slot = 0 }; state = state.Control } ∷ record { slot = record { carrier = 0; slot = 1 }; state = state.Waiting }
-    ∷ record { slot = record { carrier = 15; slot = 0 }; state = state.Down } ∷ record { slot = record { carrier = 15; slot = 1 }; state = state.Call }
+slots : text_of_reply (Slots (record { slot = record { carrier = 0; slot = 0 }; state = state.Control } ∷ record
+    { slot = record { carrier = 0; slot = 1 }; state = state.Waiting }
+    ∷ record { slot = record { carrier = 15; slot = 0 }; state = state.Down } ∷ record
+    { slot = record { carrier = 15; slot = 1 }; state = state.Call }
     ∷ record { slot = record { carrier = 7; slot = 1 }; state = state.Free } ∷ []))
     ≡ codes "slot 0 0 control\nslot 0 1 waiting\nslot 15 0 down\nslot 15 1 call\nslot 7 1 free\nend\n"
 unfolding digits

@@ -53,7 +53,8 @@ split_at_end : (xs : List ℕ) → slice_split space xs ≡ take (end_of xs) xs 
 split_at_end [] = refl
 split_at_end (x ∷ xs) = split_cons x xs (eqb x 32) refl (split_at_end xs)
 
-after_cons : (x : ℕ) (xs : List ℕ) (b : Bool) → eqb x 32 ≡ b → filter is_word (after (drop (end_of xs) xs)) ≡ words_of_line (drop (end_of xs) xs) →
+after_cons : (x : ℕ) (xs : List ℕ) (b : Bool) → eqb x 32 ≡ b → filter is_word (after (drop (end_of xs) xs)) ≡ words_of_line
+    (drop (end_of xs) xs) →
     filter is_word (after (drop (end_of (x ∷ xs)) (x ∷ xs))) ≡ words_of_line (drop (end_of (x ∷ xs)) (x ∷ xs))
 after_cons x xs true e h =
     let at : end_of (x ∷ xs) ≡ zero = ap (λ (b : Bool). cond b zero (suc (end_of xs))) e in
@@ -80,7 +81,8 @@ word_first : (x : ℕ) (xs : List ℕ) → eqb x 32 ≡ false → Parted (x ∷ 
 word_first x xs e =
     let at : end_of (x ∷ xs) ≡ suc (end_of xs) = ap (λ (b : Bool). cond b zero (suc (end_of xs))) e in
     let P : ℕ → Type 0 = λ n. filter is_word (slice_split space (x ∷ xs)) ≡ take n (x ∷ xs) ∷ words_of_line (drop n (x ∷ xs)) in
-    let parts : slice_split space (x ∷ xs) ≡ (x ∷ take (end_of xs) xs) ∷ after (drop (end_of xs) xs) = rw e (ap (onto_first x) (split_at_end xs)) in
+    let parts : slice_split space (x ∷ xs) ≡ (x ∷ take (end_of xs) xs) ∷ after (drop (end_of xs) xs) =
+    rw e (ap (onto_first x) (split_at_end xs)) in
     subst P (sym at)
     (ap (filter is_word) parts ∙ first_and_more x (take (end_of xs) xs) (after (drop (end_of xs) xs))
     ∙ ap (λ (ws : List (List ℕ)). (x ∷ take (end_of xs) xs) ∷ ws) (words_after xs))
@@ -101,7 +103,8 @@ parted : (line : List ℕ) → begin_of line < length line → Parted line (drop
 parted [] h = absurd (omega (arith, h))
 parted (x ∷ xs) h = parted_cons x xs (eqb x 32) refl h (parted xs)
 
-none_cons : (x : ℕ) (xs : List ℕ) (b : Bool) → eqb x 32 ≡ b → length (x ∷ xs) ≤ begin_of (x ∷ xs) → (length xs ≤ begin_of xs → words_of_line xs ≡ []) → words_of_line (x ∷ xs) ≡ []
+none_cons : (x : ℕ) (xs : List ℕ) (b : Bool) → eqb x 32 ≡ b → length (x ∷ xs) ≤ begin_of (x ∷ xs) →
+    (length xs ≤ begin_of xs → words_of_line xs ≡ []) → words_of_line (x ∷ xs) ≡ []
 none_cons x xs true e h more =
     let at : begin_of (x ∷ xs) ≡ suc (begin_of xs) = ap (λ (b : Bool). cond b (suc (begin_of xs)) zero) e in
     let same : words_of_line (x ∷ xs) ≡ words_of_line xs = rw e refl in
@@ -143,7 +146,8 @@ or_len m n false l h = omega (arith, h, ltb-false m n l)
 pub no_word : (line : List ℕ) (r : Option ℕ) → r ≡ found (λ o. not (eqb o 32)) line → r ≡ None → words_of_line line ≡ []
 no_word line r f e =
     let past : length line ≤ position_or_len (λ o. not (eqb o 32)) line =
-    none_at (position_or_len (λ o. not (eqb o 32)) line) (length line) (ltb (position_or_len (λ o. not (eqb o 32)) line) (length line)) refl (sym e ∙ f) in
+    none_at (position_or_len (λ o. not (eqb o 32)) line) (length line) (ltb (position_or_len (λ o. not (eqb o 32)) line) (length line)) refl
+    (sym e ∙ f) in
     none line (omega (arith, past, begin_is line))
 
 -- the first word reaches from the first octet that is not a space to the next space
@@ -152,13 +156,15 @@ pub word_and_rest : (line rest front back : List ℕ) (b e : ℕ) (r q : Option 
     front ≡ take e rest → back ≡ drop e rest → words_of_line line ≡ front ∷ words_of_line back
 word_and_rest line rest front back b e r q f is cut g at p n =
     let begin : (b ≡ position_or_len (λ o. not (eqb o 32)) line) × (position_or_len (λ o. not (eqb o 32)) line < length line) =
-    some_at (position_or_len (λ o. not (eqb o 32)) line) (length line) b (ltb (position_or_len (λ o. not (eqb o 32)) line) (length line)) refl (sym is ∙ f) in
+    some_at (position_or_len (λ o. not (eqb o 32)) line) (length line) b
+    (ltb (position_or_len (λ o. not (eqb o 32)) line) (length line)) refl (sym is ∙ f) in
     let here : b ≡ begin_of line = begin.0 ∙ sym (begin_is line) in
     let whole : rest ≡ drop (begin_of line) line =
     cut ∙ take_all (length line - b) (drop b line) (omega (arith, length-drop b line)) ∙ ap (λ (k : ℕ). drop k line) here in
     let end : e ≡ end_of rest =
     at ∙ ap (λ (o : Option ℕ). unwrap_or o (length rest)) g
-    ∙ or_len (position_or_len (λ o. eqb o 32) rest) (length rest) (ltb (position_or_len (λ o. eqb o 32) rest) (length rest)) refl (omega (arith, end_is rest, end_within rest))
+    ∙ or_len (position_or_len (λ o. eqb o 32) rest) (length rest) (ltb (position_or_len (λ o. eqb o 32) rest) (length rest)) refl
+    (omega (arith, end_is rest, end_within rest))
     ∙ sym (end_is rest) in
     let P : List ℕ → Type 0 = λ xs. Parted line xs in
     let both : Parted line rest = subst P (sym whole) (parted line (omega (arith, begin.0, begin.1, here))) in
@@ -167,13 +173,17 @@ word_and_rest line rest front back b e r q f is cut g at p n =
 -- ---- the number of a word
 
 -- one digit more
-pub digit_more : (n i : ℕ) (word : List ℕ) → i < length word → IsAsciiDigit (get_or word i 0) → digits_value_after 10 n (drop i word) ≡ digits_value_after 10 (n * 10 + (get_or word i 0 - 48)) (drop (i + 1) word)
+pub digit_more : (n i : ℕ) (word : List ℕ) → i < length word → IsAsciiDigit (get_or word i 0) →
+    digits_value_after 10 n (drop i word) ≡ digits_value_after 10 (n * 10 + (get_or word i 0 - 48)) (drop (i + 1) word)
 digit_more n i word lt is =
-    let digit : n * 10 + digit_value (get_or word i 0) ≡ n * 10 + (get_or word i 0 - 48) = omega (arith, digit_value_digit (get_or word i 0) is) in
+    let digit : n * 10 + digit_value (get_or word i 0) ≡ n * 10 + (get_or word i 0 - 48) =
+    omega (arith, digit_value_digit (get_or word i 0) is) in
     ap (digits_value_after 10 n) (drop_more word i 0 lt) ∙ ap (λ (m : ℕ). digits_value_after 10 m (drop (i + 1) word)) digit
 
-pub digits_more : (i : ℕ) (word : List ℕ) → i < length word → true ≡ is_ascii_digit (get_or word i 0) → all_ascii_digits (drop i word) ≡ all_ascii_digits (drop (i + 1) word)
-digits_more i word lt is = ap all_ascii_digits (drop_more word i 0 lt) ∙ ap (λ (b : Bool). b && all_ascii_digits (drop (i + 1) word)) (sym is)
+pub digits_more : (i : ℕ) (word : List ℕ) → i < length word → true ≡ is_ascii_digit (get_or word i 0) →
+    all_ascii_digits (drop i word) ≡ all_ascii_digits (drop (i + 1) word)
+digits_more i word lt is =
+    ap all_ascii_digits (drop_more word i 0 lt) ∙ ap (λ (b : Bool). b && all_ascii_digits (drop (i + 1) word)) (sym is)
 
 pub small_more : (n i x : ℕ) → n < 10 ^ i → IsAsciiDigit x → n * 10 + (x - 48) < 10 ^ (i + 1)
 small_more n i x lt is =

@@ -343,7 +343,8 @@ due_found wait (a ∷ asks) ask h = first (nat_le wait a.waited) h
     first true h = h
     first false h = cc
 
-module _ (plan : Settings) (now : Facts) (p : KnowsPlan plan) (h : IsSound plan now) (room : length (outbox now (control_slot plan.lists)) ≤ 56)
+module _ (plan : Settings) (now : Facts) (p : KnowsPlan plan) (h : IsSound plan now)
+    (room : length (outbox now (control_slot plan.lists)) ≤ 56)
     (ask : Ask) (found : option_map (λ (x : ActiveAsk). x.ask) (find (λ (x : ActiveAsk). true) now.asks) ≡ Some ask) where
   may_answer : MayAnswer plan now 8
   may_answer = record {
@@ -431,7 +432,8 @@ module _ (plan : Settings) (now later : Facts) (slot : Slot) where
   sent_elsewhere : (other : Slot) (xs : List Pdu) → slot.slot < 2 → other.slot < 2 → is_slot other slot ≡ false
       → outbox (fold facts_after_act later (acts_for_outbox plan now slot xs)) other ≡ outbox later other
   sent_elsewhere other [] small also apart =
-      by_if (λ acts. outbox (fold facts_after_act later acts) other ≡ outbox later other) (is_slot slot (control_slot plan.lists)) _ _ refl refl
+      by_if (λ acts. outbox (fold facts_after_act later acts) other ≡ outbox later other)
+      (is_slot slot (control_slot plan.lists)) _ _ refl refl
   sent_elsewhere other (pdu ∷ pdus) small also apart =
       get_or-set_other later.outboxes (place slot) (place other) (drop 1 (box later.outboxes slot)) []
       (other_place other slot also small apart)
@@ -460,7 +462,8 @@ polls_may plan now c up =
     (rw (sent_up plan now later first (outbox now first)) up) (omega arith) (λ k. absurd (not_first plan c k)))
 
 -- commands
-dropped_may : (plan : Settings) (now : Facts) (r : ℕ) → KnowsPlan plan → IsSound plan now → length (outbox now (control_slot plan.lists)) ≤ 56
+dropped_may : (plan : Settings) (now : Facts) (r : ℕ) → KnowsPlan plan → IsSound plan now →
+    length (outbox now (control_slot plan.lists)) ≤ 56
     → AllMayDo plan now (close plan now r ++ Left r ∷ [])
 dropped_may plan now r p h room =
     let c : Closes plan now r (close plan now r) = close_closes plan now r p h room in

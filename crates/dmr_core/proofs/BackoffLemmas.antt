@@ -66,8 +66,10 @@ poll_more (n ∷ ns) (suc k) c long small h =
     rw (f, e) (ap (λ (m : ℕ). min 15 m) (one ∙ two) ∙ h k (omega arith))
 
 still_up : (plan : Settings) (up : List Bool) (d : ℕ) (there : Bool) → (d == plan.lists.control) ≡ false
-    → slice_index_or (if there then slice_set up d true else up) plan.lists.control false ≡ true → slice_index_or up plan.lists.control false ≡ true
-still_up plan up d true e k = sym (get_or-set_other up d plan.lists.control true false (eqb-false plan.lists.control d (flipped d plan.lists.control e))) ∙ k
+    → slice_index_or (if there then slice_set up d true else up) plan.lists.control false ≡ true →
+    slice_index_or up plan.lists.control false ≡ true
+still_up plan up d true e k =
+    sym (get_or-set_other up d plan.lists.control true false (eqb-false plan.lists.control d (flipped d plan.lists.control e))) ∙ k
 still_up plan up d false e k = k
 
 -- the first k + 1 noise numbers add up to a count, as far as 15
@@ -85,7 +87,8 @@ one_event plan now (Up d) c window before k small up = elim (cases_Bool (d == pl
 one_event plan now (Lost d) c window before k small up = elim (cases_Bool (d == plan.lists.control)) [
   | inl e ↦ true_false _ up (rw (eqb-true d plan.lists.control e) (cleared now.up plan.lists.control))
   | inr e ↦ (
-      let same = get_or-set_other now.up d plan.lists.control false false (eqb-false plan.lists.control d (flipped d plan.lists.control e)) in
+      let same =
+      get_or-set_other now.up d plan.lists.control false false (eqb-false plan.lists.control d (flipped d plan.lists.control e)) in
       rw e (omega (arith, before (sym same ∙ up) k small))
       )
 ]

@@ -53,7 +53,8 @@ late_is_active plan now =
     (next_is_active now.calls (last_slot plan now))
 
 -- a Fill that is a grant is of an active call
-late_names : (plan : Settings) (calls : List ActiveCall) (slot : Slot) (pdu : Pdu) → slot ≡ control_slot plan.lists → IsLateOf plan calls pdu
+late_names : (plan : Settings) (calls : List ActiveCall) (slot : Slot) (pdu : Pdu) → slot ≡ control_slot plan.lists →
+    IsLateOf plan calls pdu
     → MayName plan calls slot pdu (is_grant pdu)
 late_names plan calls slot pdu there late =
     subst (λ (p : Pdu). MayName plan calls slot p (is_grant p)) (sym late.is)

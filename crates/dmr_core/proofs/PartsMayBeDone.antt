@@ -78,7 +78,8 @@ ack_may c one source target reason = queue_may c one (Ackd 0 reason false source
 
 -- after an act that queues nothing
 pub after : {plan : Settings} {now : Facts} {n : ℕ} → MayAnswer plan now n → (act : Act) → MayDo plan now act
-    → outbox (facts_after_act now act) (control_slot plan.lists) ≡ outbox now (control_slot plan.lists) → MayAnswer plan (facts_after_act now act) n
+    → outbox (facts_after_act now act) (control_slot plan.lists) ≡ outbox now (control_slot plan.lists) →
+    MayAnswer plan (facts_after_act now act) n
 after c act may same =
     record { known = c.known; sound = sound-done _ _ act c.known c.sound may; up = c.up; room = rw same c.room }
 
@@ -92,7 +93,8 @@ ack_after c one act may same source target reason = (may, ack_may (after c act m
 pub record LeavesRoom (plan : Settings) (now : Facts) (acts : List Act) (more : ℕ) : Type 0 where
   pub may : AllMayDo plan now acts
   pub up : (fold facts_after_act now acts).up ≡ now.up
-  pub room : length (outbox (fold facts_after_act now acts) (control_slot plan.lists)) ≤ length (outbox now (control_slot plan.lists)) + more
+  pub room : length (outbox (fold facts_after_act now acts) (control_slot plan.lists)) ≤ length
+      (outbox now (control_slot plan.lists)) + more
 
 pub queue_leaves : {plan : Settings} {now : Facts} {n : ℕ} → MayAnswer plan now n → 1 ≤ n → (pdu : Pdu) → is_grant pdu ≡ false
     → LeavesRoom plan now (Queue (control_slot plan.lists) pdu ∷ []) 1

@@ -40,12 +40,14 @@ one_row (r ∷ rows) a b x y own h k same =
 pub lpcn_is : (plan : Settings) (a : ℕ) (x : CarrierRow) → find (λ r. r.number == a) plan.lists.carriers ≡ Some x → lpcn_of plan a ≡ x.lpcn
 lpcn_is plan a x h = rw h refl
 
-channels_apart : (plan : Settings) → HasOwnChannels plan.lists.carriers → (a b : ℕ) → has_carrier plan a ≡ true → has_carrier plan b ≡ true →
+channels_apart : (plan : Settings) → HasOwnChannels plan.lists.carriers → (a b : ℕ) → has_carrier plan a ≡ true →
+    has_carrier plan b ≡ true →
     lpcn_of plan a ≡ lpcn_of plan b → a ≡ b
 channels_apart plan own a b h k same =
     let x = any_found (λ r. r.number == a) plan.lists.carriers h in
     let y = any_found (λ r. r.number == b) plan.lists.carriers k in
-    let one : x.0 ≡ y.0 = one_row plan.lists.carriers a b x.0 y.0 own x.1 y.1 (sym (lpcn_is plan a x.0 x.1) ∙ same ∙ lpcn_is plan b y.0 y.1) in
+    let one : x.0 ≡ y.0 =
+    one_row plan.lists.carriers a b x.0 y.0 own x.1 y.1 (sym (lpcn_is plan a x.0 x.1) ∙ same ∙ lpcn_is plan b y.0 y.1) in
     sym (eqb-true x.0.number a (find_passes (λ r. r.number == a) plan.lists.carriers x.0 x.1)) ∙ ap (λ (r : CarrierRow). r.number) one
     ∙ eqb-true y.0.number b (find_passes (λ r. r.number == b) plan.lists.carriers y.0 y.1)
 

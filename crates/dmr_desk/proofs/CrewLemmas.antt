@@ -15,7 +15,8 @@ use Rattle.dmr_desk.specs.Term.{IsNew, AreNew, is_none, is_new, are_new}
 
 -- ---- work
 
-pub all_done_length : {S L : Type 0} (serving : Serving S) (n : ℕ) (ss : List S) (ws : List (LinkWork S L)) → AllDone serving n ss ws → length ws ≡ length ss
+pub all_done_length : {S L : Type 0} (serving : Serving S) (n : ℕ) (ss : List S) (ws : List (LinkWork S L)) → AllDone serving n ss ws →
+    length ws ≡ length ss
 all_done_length serving n [] [] h = refl
 all_done_length serving n (s ∷ ss) (w ∷ ws) h = ap (λ k. suc k) (all_done_length serving (n + 1) ss ws h.1)
 all_done_length serving n [] (w ∷ ws) h = absurd h
@@ -64,8 +65,11 @@ first_of [] left x some value rest = absurd (omega arith)
 first_of (y ∷ ys) left x some value rest = cc
 
 -- its work and that of the others
-pub all_done_cons : {S L : Type 0} (serving : Serving S) (stations left : List S) (station : S) (seats others : List SeatState) (seat : SeatState) (n : ℕ) (w : LinkWork S L) (ws : List (LinkWork S L)) → stations ≡ station ∷ left → seats ≡ seat ∷ others → AreNew n seats
-    → IsWorkDone serving seat.actor station w → (AreNew (n + 1) others → AllDone serving (n + 1) left ws) → AllDone serving n stations (w ∷ ws)
+pub all_done_cons : {S L : Type 0} (serving : Serving S) (stations left : List S) (station : S) (seats others : List SeatState)
+    (seat : SeatState) (n : ℕ) (w : LinkWork S L) (ws : List (LinkWork S L)) → stations ≡ station ∷ left → seats ≡ seat ∷ others →
+    AreNew n seats
+    → IsWorkDone serving seat.actor station w → (AreNew (n + 1) others → AllDone serving (n + 1) left ws) →
+    AllDone serving n stations (w ∷ ws)
 all_done_cons {S = S} serving stations left station seats others seat n w ws first second new done rest =
     let P : List SeatState → Type 0 = AreNew n in
     let both = subst P second new in
@@ -89,7 +93,8 @@ pub empty_new : (n : ℕ) → AreNew 0 (empty_seats n)
 empty_new zero = tt
 empty_new (suc n) =
     let k = empty_length n in
-    let e : n ≡ 0 + length (empty_seats n) = omega arith in new_snoc 0 (empty_seats n) (record { actor = n; deposits = [] }) (empty_new n) (e, refl)
+    let e : n ≡ 0 + length (empty_seats n) =
+    omega arith in new_snoc 0 (empty_seats n) (record { actor = n; deposits = [] }) (empty_new n) (e, refl)
 
 -- ---- as tests
 
@@ -122,7 +127,8 @@ all_new_then n (x ∷ xs) h =
     (λ i. a i && b i)
 
 -- the last two of the seats are the ticker's and the console's
-pub crew_of : (n : ℕ) (seats middle rest : List SeatState) (console pacer : SeatState) → seats ≡ empty_seats (n + 2) → seats ≡ middle ++ console ∷ [] → middle ≡ rest ++ pacer ∷ []
+pub crew_of : (n : ℕ) (seats middle rest : List SeatState) (console pacer : SeatState) → seats ≡ empty_seats (n + 2) →
+    seats ≡ middle ++ console ∷ [] → middle ≡ rest ++ pacer ∷ []
     → (length rest ≡ n) × AreNew 0 rest × IsNew n pacer × IsNew (n + 1) console
 crew_of n seats middle rest console pacer all first second =
     let P : List SeatState → Type 0 = AreNew 0 in
@@ -138,8 +144,12 @@ crew_of n seats middle rest console pacer all first second =
     let R : ℕ → Type 0 = λ i. IsNew i console in (r, b.0, subst Q r b.1, subst R t a.1)
 
 -- the workers of a crew with new seats
-pub all_worked : {S T C L : Type 0} (serving : Serving S) (pacing : Pacer T) (its : Serving C) (stations : List S) (others : TickerAndConsole T C L) (result : Option (AllWork S T C L)) → others.pacer_seat.actor ≡ length stations → others.console_seat.actor ≡ length stations + 1
-    → IfSome result (λ all. AllDone serving 0 stations all.carriers.items) → IfSome result (λ all. IsTicked pacing others.pacer_seat.actor others.pacer all.ticker) → IfSome result (λ all. IsWorkDone its others.console_seat.actor others.console all.console)
+pub all_worked : {S T C L : Type 0} (serving : Serving S) (pacing : Pacer T) (its : Serving C) (stations : List S)
+    (others : TickerAndConsole T C L) (result : Option (AllWork S T C L)) → others.pacer_seat.actor ≡ length stations →
+    others.console_seat.actor ≡ length stations + 1
+    → IfSome result (λ all. AllDone serving 0 stations all.carriers.items) →
+    IfSome result (λ all. IsTicked pacing others.pacer_seat.actor others.pacer all.ticker) →
+    IfSome result (λ all. IsWorkDone its others.console_seat.actor others.console all.console)
     → IfSome result (AllWorked serving pacing its stations others.pacer others.console)
 all_worked serving pacing its stations others None first second carriers ticker last = tt
 all_worked serving pacing its stations others (Some all) first second carriers ticker last =

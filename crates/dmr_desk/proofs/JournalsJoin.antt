@@ -25,11 +25,14 @@ use Rattle.dmr_desk.proofs.TermsJoin.{limit_stays}
 
 -- ---- two journals, newest entry first
 
-since_append : {X : Type 0} (by_event : X → Event → X) (by_act : X → Act → X) (x : X) (later earlier : List Entry) → since by_event by_act x (later ++ earlier) ≡ since by_event by_act (since by_event by_act x earlier) later
+since_append : {X : Type 0} (by_event : X → Event → X) (by_act : X → Act → X) (x : X) (later earlier : List Entry) →
+    since by_event by_act x (later ++ earlier) ≡ since by_event by_act (since by_event by_act x earlier) later
 since_append by_event by_act x [] earlier = refl
-since_append {X} by_event by_act x (entry ∷ later) earlier = ap (λ (y : X). fold by_act (by_event y entry.event) entry.acts.list) (since_append by_event by_act x later earlier)
+since_append {X} by_event by_act x (entry ∷ later) earlier =
+    ap (λ (y : X). fold by_act (by_event y entry.event) entry.acts.list) (since_append by_event by_act x later earlier)
 
-pub facts_append : (plan : Settings) (facts : Facts) (later earlier : List Entry) → facts_after plan facts (later ++ earlier) ≡ facts_after plan (facts_after plan facts earlier) later
+pub facts_append : (plan : Settings) (facts : Facts) (later earlier : List Entry) →
+    facts_after plan facts (later ++ earlier) ≡ facts_after plan (facts_after plan facts earlier) later
 facts_append plan facts later earlier = λ i. record {
   up = since_append (up_by_event plan) same_as_before facts.up later earlier i;
   registered = since_append same_as_before registered_by_act facts.registered later earlier i;
@@ -43,7 +46,8 @@ facts_append plan facts later earlier = λ i. record {
   late = since_append (late_by_event plan) late_by_act facts.late later earlier i;
 }
 
-legal_append : (plan : Settings) (facts : Facts) (later earlier : List Entry) → IsLegal plan facts earlier → IsLegal plan (facts_after plan facts earlier) later → IsLegal plan facts (later ++ earlier)
+legal_append : (plan : Settings) (facts : Facts) (later earlier : List Entry) → IsLegal plan facts earlier →
+    IsLegal plan (facts_after plan facts earlier) later → IsLegal plan facts (later ++ earlier)
 legal_append plan facts [] earlier first second = first
 legal_append plan facts (entry ∷ later) earlier first second =
     let answer_at : Facts → Acts = λ f. record { list = acts_of plan f entry.event; said = reply_to plan f entry.event } in (
@@ -54,33 +58,42 @@ legal_append plan facts (entry ∷ later) earlier first second =
 -- ---- the journal of all terms
 
 -- it is legal, and it leads to the site that the terms left
-pub one_journal : (start : Start) (ends : List End) → AreTerms start ends → IsLegal start.site.plan start.site.facts (reverse (joined_journal ends)) × ((start_after start ends).site ≡ site_after_entries start.site (joined_journal ends))
+pub one_journal : (start : Start) (ends : List End) → AreTerms start ends →
+    IsLegal start.site.plan start.site.facts (reverse (joined_journal ends)) ×
+    ((start_after start ends).site ≡ site_after_entries start.site (joined_journal ends))
 one_journal start [] are = (tt, refl)
 one_journal start (end ∷ earlier) are =
     let before = one_journal start earlier are.1 in
     let run = are.0.run in
     let plan = start.site.plan in
     let facts = start.site.facts in
-    let both : reverse (joined_journal earlier ++ end.journal) ≡ reverse end.journal ++ reverse (joined_journal earlier) = reverse-append (joined_journal earlier) end.journal in
+    let both : reverse (joined_journal earlier ++ end.journal) ≡ reverse end.journal ++ reverse (joined_journal earlier) =
+    reverse-append (joined_journal earlier) end.journal in
     let P : SiteState → Type 0 = λ s. IsLegal s.plan s.facts (reverse end.journal) in
     let Q : List Entry → Type 0 = λ j. IsLegal start.site.plan start.site.facts j in
     let site_with : Facts → SiteState = λ f. record { plan = start.site.plan; facts = f } in (
-      subst Q (sym both) (legal_append plan facts (reverse end.journal) (reverse (joined_journal earlier)) before.0 (subst P before.1 run.ended.legal)),
+      subst Q (sym both) (legal_append plan facts (reverse end.journal) (reverse (joined_journal earlier)) before.0
+          (subst P before.1 run.ended.legal)),
       run.ended.site ∙ ap (λ (s : SiteState). site_after_entries s end.journal) before.1
-          ∙ ap site_with (sym (facts_append plan facts (reverse end.journal) (reverse (joined_journal earlier))) ∙ ap (facts_after plan facts) (sym both)),
+          ∙ ap site_with (sym (facts_append plan facts (reverse end.journal) (reverse (joined_journal earlier)))
+          ∙ ap (facts_after plan facts) (sym both)),
     )
 
-pub stations_stay : (start : Start) (ends : List End) → AreTerms start ends → length (start_after start ends).stations ≡ length start.stations
+pub stations_stay : (start : Start) (ends : List End) → AreTerms start ends →
+    length (start_after start ends).stations ≡ length start.stations
 stations_stay start [] are = refl
 stations_stay start (end ∷ earlier) are = are.0.run.ended.handed_back ∙ stations_stay start earlier are.1
 
-pub nobody_else : (start : Start) (ends : List End) → AreTerms start ends → All (λ (entry : Entry). entry.actor < length start.stations + 2) (joined_journal ends)
+pub nobody_else : (start : Start) (ends : List End) → AreTerms start ends →
+    All (λ (entry : Entry). entry.actor < length start.stations + 2) (joined_journal ends)
 nobody_else start [] are = All-nil (λ (entry : Entry). entry.actor < length start.stations + 2)
 nobody_else start (end ∷ earlier) are =
     let run = are.0.run in
     let P : ℕ → Type 0 = λ n. All (λ (entry : Entry). entry.actor < n) end.journal in
-    let many : length end.views ≡ length start.stations + 2 = run.ended.actors ∙ ap (λ (n : ℕ). n + 2) (stations_stay start earlier are.1) in
-    All-append (λ (entry : Entry). entry.actor < length start.stations + 2) (joined_journal earlier) end.journal (nobody_else start earlier are.1) (subst P many run.ended.nobody)
+    let many : length end.views ≡ length start.stations + 2 =
+    run.ended.actors ∙ ap (λ (n : ℕ). n + 2) (stations_stay start earlier are.1) in
+    All-append (λ (entry : Entry). entry.actor < length start.stations + 2) (joined_journal earlier) end.journal
+    (nobody_else start earlier are.1) (subst P many run.ended.nobody)
 
 pub each_within : (start : Start) (ends : List End) → AreTerms start ends → All (λ (end : End). length end.journal ≤ start.limit) ends
 each_within start [] are = All-nil (λ (end : End). length end.journal ≤ start.limit)
@@ -91,20 +104,24 @@ each_within start (end ∷ earlier) are =
 
 pub journals_joined : (ends : List End) → flat_map (λ (j : List Entry). j) (journals_of ends) ≡ joined_journal ends
 journals_joined [] = refl
-journals_joined (end ∷ earlier) = flat_map-append (λ (j : List Entry). j) (journals_of earlier) (end.journal ∷ []) ∙ (λ i. journals_joined earlier i ++ append-nil end.journal i)
+journals_joined (end ∷ earlier) = flat_map-append (λ (j : List Entry). j) (journals_of earlier) (end.journal ∷ [])
+    ∙ (λ i. journals_joined earlier i ++ append-nil end.journal i)
 
 -- ---- an actor's views
 
 pub view_append : (actor : ℕ) (first second : List Entry) → view_of actor (first ++ second) ≡ view_of actor first ++ view_of actor second
 view_append actor first second =
     ap (map deposit_in) (filter-append (λ (entry : Entry). entry.actor == actor) first second)
-    ∙ map-append deposit_in (filter (λ (entry : Entry). entry.actor == actor) first) (filter (λ (entry : Entry). entry.actor == actor) second)
+    ∙ map-append deposit_in (filter (λ (entry : Entry). entry.actor == actor) first)
+    (filter (λ (entry : Entry). entry.actor == actor) second)
 
-pub views_joined : (start : Start) (ends : List End) (actor : ℕ) → AreTerms start ends → actor < length start.stations + 2 → joined_view actor ends ≡ view_of actor (joined_journal ends)
+pub views_joined : (start : Start) (ends : List End) (actor : ℕ) → AreTerms start ends → actor < length start.stations + 2 →
+    joined_view actor ends ≡ view_of actor (joined_journal ends)
 views_joined start [] actor are low = refl
 views_joined start (end ∷ earlier) actor are low =
     let run = are.0.run in
     let many = run.ended.actors in
     let stay = stations_stay start earlier are.1 in
-    let own : slice_index_or end.views actor [] ≡ view_of actor end.journal = get_or_from_slice_get end.views actor (view_of actor end.journal) [] (run.views actor (omega arith)) in
+    let own : slice_index_or end.views actor [] ≡ view_of actor end.journal =
+    get_or_from_slice_get end.views actor (view_of actor end.journal) [] (run.views actor (omega arith)) in
     (λ i. views_joined start earlier actor are.1 low i ++ own i) ∙ sym (view_append actor (joined_journal earlier) end.journal)

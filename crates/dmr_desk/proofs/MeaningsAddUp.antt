@@ -16,7 +16,8 @@ use Rattle.dmr_desk.specs.Work.{deposits_of_sessions}
 -- ---- each connection
 
 -- what each connection means, and that nothing is pending of a link that is over
-module _ (laws : (l : LinkState) (s : Session) → IsLeftBy l s → Accounts l s) (over_owes : (l : LinkState) → IsOver l → pending_notices l ≡ []) where
+module _ (laws : (l : LinkState) (s : Session) → IsLeftBy l s → Accounts l s)
+    (over_owes : (l : LinkState) → IsOver l → pending_notices l ≡ []) where
   newest : (l : LinkState) (s : Session) (h : IsLeftBy l s) → IsAccounted l.who s (laws l s h).done (pending_notices l)
   newest l s h = let a = laws l s h in record { means = a.means; events = a.events; taken = a.taken }
 
@@ -34,7 +35,8 @@ module _ (laws : (l : LinkState) (s : Session) → IsLeftBy l s → Accounts l s
       let earlier = all_older who ss (All-tail (WasServed who) s ss all) in
       (earlier.0 ++ own.0, (earlier.0, own.0, refl, earlier.1, own.1))
 
-  accounted : (l : LinkState) (past : List Session) → HasPast l past → (done : List Notice) × AreAccounted l.who past done (pending_notices l)
+  accounted : (l : LinkState) (past : List Session) → HasPast l past → (done : List Notice) ×
+      AreAccounted l.who past done (pending_notices l)
   accounted l [] h = ([], (refl, over_owes l h.0))
   accounted l (s ∷ ss) h =
       let earlier = all_older l.who ss h.1 in
@@ -43,7 +45,8 @@ module _ (laws : (l : LinkState) (s : Session) → IsLeftBy l s → Accounts l s
 
 -- ---- all together
 
-all_mean : (who : Peer) (past : List Session) (done owing : List Notice) → AreAccounted who past done owing → AllMean who past (done ++ owing)
+all_mean : (who : Peer) (past : List Session) (done owing : List Notice) → AreAccounted who past done owing →
+    AllMean who past (done ++ owing)
 all_mean who [] done owing are = (λ i. are.0 i ++ are.1 i)
 all_mean who (s ∷ ss) done owing are =
     let P : List Notice → Type 0 = λ ns. AllMean who ss ns in (
@@ -54,14 +57,21 @@ all_mean who (s ∷ ss) done owing are =
       are.4.means,
     )
 
-all_events : (who : Peer) (past : List Session) (done owing : List Notice) → AreAccounted who past done owing → events_in done ≡ map (λ (d : Deposit). d.event) (deposits_of_sessions past)
+all_events : (who : Peer) (past : List Session) (done owing : List Notice) → AreAccounted who past done owing →
+    events_in done ≡ map (λ (d : Deposit). d.event) (deposits_of_sessions past)
 all_events who [] done owing are = ap events_in are.0
 all_events who (s ∷ ss) done owing are =
     ap events_in are.2 ∙ filter_map-append event_in are.0 are.1
     ∙ (λ i. all_events who ss are.0 [] are.3 i ++ are.4.events i)
     ∙ sym (map-append (λ (d : Deposit). d.event) (deposits_of_sessions ss) s.calls)
 
-pub one_meaning : ((l : LinkState) (s : Session) → IsLeftBy l s → Accounts l s) → ((l : LinkState) → IsOver l → pending_notices l ≡ []) → (l : LinkState) (past : List Session) → HasPast l past → IsOneMeaning l past
+pub one_meaning : ((l : LinkState) (s : Session) → IsLeftBy l s → Accounts l s) → ((l : LinkState) → IsOver l → pending_notices l ≡ []) →
+    (l : LinkState) (past : List Session) → HasPast l past → IsOneMeaning l past
 one_meaning laws over_owes l past h =
     let a = accounted laws over_owes l past h in
-    record { done = a.0; means = all_mean l.who past a.0 (pending_notices l) a.1; events = all_events l.who past a.0 (pending_notices l) a.1; connections = a.1 }
+    record {
+      done = a.0;
+      means = all_mean l.who past a.0 (pending_notices l) a.1;
+      events = all_events l.who past a.0 (pending_notices l) a.1;
+      connections = a.1;
+    }

@@ -40,11 +40,13 @@ bare_progress h NotYet = refl
 bare_progress h Finished = refl
 bare_progress h (Came octets) = refl
 bare_progress h InputEnded = refl
-bare_progress h ReadInterrupted = bare_cond (nat_lt h.row 16) (progress_at h.session (h.row + 1)) (progress_at (with_how h.session ReadFaulty) 0)
+bare_progress h ReadInterrupted =
+    bare_cond (nat_lt h.row 16) (progress_at h.session (h.row + 1)) (progress_at (with_how h.session ReadFaulty) 0)
 bare_progress h ReadBlocked = refl
 bare_progress h ReadFailed = refl
 bare_progress h (Took octets) = bare_took h.session octets
-bare_progress h WriteInterrupted = bare_cond (nat_lt h.writing 16) (in_writing h.session (h.writing + 1)) (progress_at (with_how h.session WriteFaulty) 0)
+bare_progress h WriteInterrupted =
+    bare_cond (nat_lt h.writing 16) (in_writing h.session (h.writing + 1)) (progress_at (with_how h.session WriteFaulty) 0)
 bare_progress h WriteBlocked = refl
 bare_progress h WriteFailed = refl
 bare_progress h Again = refl
@@ -52,12 +54,14 @@ bare_progress h Silent = refl
 
 bare_all : (h : Progress) (answers : List Answer) → progress_after_answers (bare h) answers ≡ bare (progress_after_answers h answers)
 bare_all h [] = refl
-bare_all h (a ∷ answers) = ap (λ (k : Progress). progress_after_answers k answers) (bare_progress h a) ∙ bare_all (progress_after_answer h a) answers
+bare_all h (a ∷ answers) =
+    ap (λ (k : Progress). progress_after_answers k answers) (bare_progress h a) ∙ bare_all (progress_after_answer h a) answers
 
 -- ---- a call of serve
 
 -- without a connection, answers of reads and writes change nothing
-unheard : (row writing reads : ℕ) (a : Answer) → is_wire a ≡ true → reading_after_any (reading_at [] row writing reads) a ≡ reading_at [] row writing reads
+unheard : (row writing reads : ℕ) (a : Answer) → is_wire a ≡ true → reading_after_any
+    (reading_at [] row writing reads) a ≡ reading_at [] row writing reads
 unheard row writing reads Opened wire = cc
 unheard row writing reads NotYet wire = cc
 unheard row writing reads Finished wire = cc
@@ -73,7 +77,8 @@ unheard row writing reads WriteFailed wire = refl
 unheard row writing reads Again wire = cc
 unheard row writing reads Silent wire = cc
 
-none_progress : (row writing reads : ℕ) (answers : List Answer) → AreOfWire answers → reading_after_all (reading_at [] row writing reads) answers ≡ reading_at [] row writing reads
+none_progress : (row writing reads : ℕ) (answers : List Answer) → AreOfWire answers →
+    reading_after_all (reading_at [] row writing reads) answers ≡ reading_at [] row writing reads
 none_progress row writing reads [] wire = refl
 none_progress row writing reads (a ∷ answers) wire =
     ap (λ (r : Reading). reading_after_all r answers) (unheard row writing reads a wire.0) ∙ none_progress row writing reads answers wire.1
@@ -94,7 +99,8 @@ record Matches (ss : List Session) (r : Reading) (k : Progress) (reads : ℕ) : 
 -- how the answers of one call are read after an opening or a wait, and after the 64 reads of the call before
 pub record RecordLaws : Type 0 where
   pub begun : (s : Session) (ss : List Session) (answers : List Answer) → AreOfWire answers → reads_in answers ≤ 64 →
-      reading_after_all (reading_at (s ∷ ss) 0 0 0) answers ≡ of_progress ss (reads_in answers) (progress_after_answers (progress_at s 0) answers)
+      reading_after_all (reading_at (s ∷ ss) 0 0 0) answers ≡ of_progress ss (reads_in answers)
+      (progress_after_answers (progress_at s 0) answers)
   pub paused : (s : Session) (ss : List Session) (row : ℕ) (answers : List Answer) → AreOfWire answers → reads_in answers ≤ 64 →
       (reading_after_all (reading_at (s ∷ ss) row 0 64) answers).past ≡ (progress_after_answers (progress_at s 0) answers).session ∷ ss
   pub writing : (s : Session) (ss : List Session) (row : ℕ) (answers : List Answer) → AreOfWire answers → reads_in answers ≤ 64 →
@@ -103,21 +109,26 @@ pub record RecordLaws : Type 0 where
       ((reading_after_all (reading_at (s ∷ ss) row 0 64) answers).reads ≡ reads_in answers) ⊎ (reads_in answers ≡ 0)
 
 -- a call, from its beginning
-matched : RecordLaws → (s : Session) (ss : List Session) (row writing reads : ℕ) (answers : List Answer) → Begins (reading_at (s ∷ ss) row writing reads) → AreOfWire answers → reads_in answers ≤ 64 →
-    Matches ss (reading_after_all (reading_at (s ∷ ss) row writing reads) answers) (progress_after_answers (progress_at s 0) answers) (reads_in answers)
+matched : RecordLaws → (s : Session) (ss : List Session) (row writing reads : ℕ) (answers : List Answer) →
+    Begins (reading_at (s ∷ ss) row writing reads) → AreOfWire answers → reads_in answers ≤ 64 →
+    Matches ss (reading_after_all (reading_at (s ∷ ss) row writing reads) answers) (progress_after_answers (progress_at s 0) answers)
+    (reads_in answers)
 matched laws s ss row writing reads answers begins wire few =
-    let M : Reading → Type 0 = λ r. Matches ss (reading_after_all r answers) (progress_after_answers (progress_at s 0) answers) (reads_in answers) in
+    let M : Reading → Type 0 = λ r. Matches ss (reading_after_all r answers) (progress_after_answers (progress_at s 0) answers)
+    (reads_in answers) in
     elim begins.1 [
       | inl start ↦
           let same = laws.begun s ss answers wire few in
-          let here : reading_at (s ∷ ss) 0 0 0 ≡ reading_at (s ∷ ss) row writing reads = (λ i. reading_at (s ∷ ss) (sym start.1 i) (sym begins.0 i) (sym start.0 i)) in
+          let here : reading_at (s ∷ ss) 0 0 0 ≡ reading_at (s ∷ ss) row writing reads =
+          (λ i. reading_at (s ∷ ss) (sym start.1 i) (sym begins.0 i) (sym start.0 i)) in
           subst M here (record {
             past = ap (λ (r : Reading). r.past) same;
             writing = ap (λ (r : Reading). r.writing) same;
             reads_are = inl (ap (λ (r : Reading). r.reads) same);
           })
       | inr full ↦
-          let here : reading_at (s ∷ ss) row 0 64 ≡ reading_at (s ∷ ss) row writing reads = (λ i. reading_at (s ∷ ss) row (sym begins.0 i) (sym full i)) in
+          let here : reading_at (s ∷ ss) row 0 64 ≡ reading_at (s ∷ ss) row writing reads =
+          (λ i. reading_at (s ∷ ss) row (sym begins.0 i) (sym full i)) in
           subst M here (record {
             past = laws.paused s ss row answers wire few;
             writing = laws.writing s ss row answers wire few;
@@ -130,9 +141,12 @@ abbrev Has : Reading → List Session → Type 0
 Has r past = r.past ≡ map in_record past
 
 -- a call adds to the reading what it does to the connections; after its 64 reads, another may begin
-after_call : RecordLaws → (who : Peer) (now : List Session) (row writing reads : ℕ) (happened : List Happening) (stop : Ended) → Begins (reading_at (map in_record now) row writing reads) → IsCall who now happened stop →
-    Has (reading_after_all (reading_at (map in_record now) row writing reads) (answers_in happened)) (sessions_after now (answers_in happened) (deposits_in happened))
-    × (reads_in (answers_in happened) ≡ 64 → Begins (reading_after_all (reading_at (map in_record now) row writing reads) (answers_in happened)))
+after_call : RecordLaws → (who : Peer) (now : List Session) (row writing reads : ℕ) (happened : List Happening) (stop : Ended) →
+    Begins (reading_at (map in_record now) row writing reads) → IsCall who now happened stop →
+    Has (reading_after_all (reading_at (map in_record now) row writing reads) (answers_in happened))
+    (sessions_after now (answers_in happened) (deposits_in happened))
+    × (reads_in (answers_in happened) ≡ 64 → Begins
+    (reading_after_all (reading_at (map in_record now) row writing reads) (answers_in happened)))
 after_call laws who [] row writing reads happened stop begins call =
     let same = none_progress row writing reads (answers_in happened) call.wire in (
       ap (λ (r : Reading). r.past) same,
@@ -141,7 +155,8 @@ after_call laws who [] row writing reads happened stop begins call =
 after_call laws who (s ∷ ss) row writing reads happened stop begins call =
     let answers = answers_in happened in
     let m = matched laws (in_record s) (map in_record ss) row writing reads answers begins call.wire call.few in
-    let unread : progress_after_answers (progress_at (in_record s) 0) answers ≡ bare (progress_after_answers (progress_at s 0) answers) = bare_all (progress_at s 0) answers in (
+    let unread : progress_after_answers (progress_at (in_record s) 0) answers ≡ bare (progress_after_answers (progress_at s 0) answers) =
+    bare_all (progress_at s 0) answers in (
       m.past ∙ ap (λ (k : Progress). k.session ∷ map in_record ss) unread,
       λ full. (
         m.writing ∙ ap (λ (k : Progress). k.writing) unread ∙ call.rested s ss refl,
@@ -150,7 +165,8 @@ after_call laws who (s ∷ ss) row writing reads happened stop begins call =
     )
 
 -- if another call may begin directly after a call, that call made its 64 reads
-paused_full : (happened : List Happening) (stop : Ended) (earlier : List Step) → MayBeginServe (Served happened stop ∷ earlier) → StopsAt stop (answers_in happened) → reads_in (answers_in happened) ≡ 64
+paused_full : (happened : List Happening) (stop : Ended) (earlier : List Step) → MayBeginServe (Served happened stop ∷ earlier) →
+    StopsAt stop (answers_in happened) → reads_in (answers_in happened) ≡ 64
 paused_full happened ended.Paused earlier may stops = stops
 paused_full happened ended.Idle earlier may stops = absurd may
 paused_full happened ended.TermOver earlier may stops = absurd may
@@ -160,7 +176,8 @@ paused_full happened ended.ReadFault earlier may stops = absurd may
 paused_full happened ended.WriteFault earlier may stops = absurd may
 paused_full happened (ended.BadFrame why) earlier may stops = absurd may
 
-silent_bare : (past : List Session) (deposits : List Deposit) → sessions_after_silence (map in_record past) ≡ map in_record (with_newest_deposits (sessions_after_silence past) deposits)
+silent_bare : (past : List Session) (deposits : List Deposit) → sessions_after_silence (map in_record past) ≡ map in_record
+    (with_newest_deposits (sessions_after_silence past) deposits)
 silent_bare [] deposits = refl
 silent_bare (s ∷ ss) deposits = refl
 
@@ -169,18 +186,23 @@ record Follows (past : List Session) (steps : List Step) (r : Reading) : Type 0 
   pub has : Has r (past_after past steps)
   pub begins : MayBeginServe steps → Begins r
 
-asked_more : (past : List Session) (earlier : List Step) (x : Answer) (r : Reading) → IsAsk x → Follows past earlier r → Follows past (Asked x ∷ earlier) (reading_after_any r x)
-asked_more past earlier Opened r is f = record { has = ap (λ (ss : List Session). new_session ∷ ss) f.has; begins = λ may. (refl, inl (refl, refl)) }
+asked_more : (past : List Session) (earlier : List Step) (x : Answer) (r : Reading) → IsAsk x → Follows past earlier r →
+    Follows past (Asked x ∷ earlier) (reading_after_any r x)
+asked_more past earlier Opened r is f = record
+    { has = ap (λ (ss : List Session). new_session ∷ ss) f.has; begins = λ may. (refl, inl (refl, refl)) }
 asked_more past earlier NotYet r is f = record { has = f.has; begins = λ may. absurd may }
 asked_more past earlier Finished r is f = record { has = f.has; begins = λ may. absurd may }
 asked_more past earlier x r is f = absurd is
 
-waited_more : (past : List Session) (earlier : List Step) (x : Answer) (deposits : List Deposit) (r : Reading) → IsWait x deposits → Follows past earlier r → Follows past (Waited x deposits ∷ earlier) (reading_after_any r x)
+waited_more : (past : List Session) (earlier : List Step) (x : Answer) (deposits : List Deposit) (r : Reading) → IsWait x deposits →
+    Follows past earlier r → Follows past (Waited x deposits ∷ earlier) (reading_after_any r x)
 waited_more past earlier Again deposits r is f = record { has = f.has; begins = λ may. (refl, inl (refl, refl)) }
-waited_more past earlier Silent deposits r is f = record { has = ap sessions_after_silence f.has ∙ silent_bare (past_after past earlier) deposits; begins = λ may. absurd may }
+waited_more past earlier Silent deposits r is f = record
+    { has = ap sessions_after_silence f.has ∙ silent_bare (past_after past earlier) deposits; begins = λ may. absurd may }
 waited_more past earlier x deposits r is f = absurd is
 
-served_more : RecordLaws → (who : Peer) (past : List Session) (earlier : List Step) (happened : List Happening) (stop : Ended) (r : Reading) → IsCall who (past_after past earlier) happened stop → MayBeginServe earlier → Follows past earlier r →
+served_more : RecordLaws → (who : Peer) (past : List Session) (earlier : List Step) (happened : List Happening) (stop : Ended)
+    (r : Reading) → IsCall who (past_after past earlier) happened stop → MayBeginServe earlier → Follows past earlier r →
     Follows past (Served happened stop ∷ earlier) (reading_after_all r (answers_in happened))
 served_more laws who past earlier happened stop r call may f =
     let now = past_after past earlier in
@@ -191,35 +213,44 @@ served_more laws who past earlier happened stop r call may f =
     subst Q here (record { has = after.0; begins = λ more. after.1 (paused_full happened stop earlier more call.stops) })
 
 -- one more step
-read_more : (past : List Session) (earlier : List Step) (d : Step) (answers : List Answer) (r : Reading) → answers_in (happened_in d) ≡ answers →
-    Follows past (d ∷ earlier) (reading_after_all (reading_after_all r (answers_in (happened_of earlier))) answers) → Follows past (d ∷ earlier) (reading_after_all r (answers_in (happened_of (d ∷ earlier))))
+read_more : (past : List Session) (earlier : List Step) (d : Step) (answers : List Answer) (r : Reading) →
+    answers_in (happened_in d) ≡ answers →
+    Follows past (d ∷ earlier) (reading_after_all (reading_after_all r (answers_in (happened_of earlier))) answers) →
+    Follows past (d ∷ earlier) (reading_after_all r (answers_in (happened_of (d ∷ earlier))))
 read_more past earlier d answers r are f =
     let P : Reading → Type 0 = λ x. Follows past (d ∷ earlier) x in
     let split : answers_in (happened_of earlier ++ happened_in d) ≡ answers_in (happened_of earlier) ++ answers =
-    filter_map-append port_answer (happened_of earlier) (happened_in d) ∙ ap (λ (xs : List Answer). answers_in (happened_of earlier) ++ xs) are in
+    filter_map-append port_answer (happened_of earlier) (happened_in d)
+    ∙ ap (λ (xs : List Answer). answers_in (happened_of earlier) ++ xs) are in
     subst P (sym (ap (reading_after_all r) split ∙ fold-append reading_after_any r (answers_in (happened_of earlier)) answers)) f
 
 abbrev start : List Session → Reading
 start past = reading_at (map in_record past) 0 0 0
 
-follows : RecordLaws → (who : Peer) (past : List Session) (steps : List Step) → IsOrderly who past steps → Follows past steps (reading_after_all (start past) (answers_in (happened_of steps)))
+follows : RecordLaws → (who : Peer) (past : List Session) (steps : List Step) → IsOrderly who past steps →
+    Follows past steps (reading_after_all (start past) (answers_in (happened_of steps)))
 follows laws who past [] orderly = record { has = refl; begins = λ may. (refl, inl (refl, refl)) }
 follows laws who past (Asked x ∷ earlier) orderly =
     read_more past earlier (Asked x) (x ∷ []) (start past) refl
-    (asked_more past earlier x (reading_after_all (start past) (answers_in (happened_of earlier))) orderly.0 (follows laws who past earlier orderly.2))
+    (asked_more past earlier x (reading_after_all (start past) (answers_in (happened_of earlier))) orderly.0
+    (follows laws who past earlier orderly.2))
 follows laws who past (Served happened stop ∷ earlier) orderly =
     read_more past earlier (Served happened stop) (answers_in happened) (start past) refl
-    (served_more laws who past earlier happened stop (reading_after_all (start past) (answers_in (happened_of earlier))) orderly.0 orderly.1 (follows laws who past earlier orderly.2))
+    (served_more laws who past earlier happened stop (reading_after_all (start past) (answers_in (happened_of earlier))) orderly.0 orderly.1
+    (follows laws who past earlier orderly.2))
 follows laws who past (Waited x deposits ∷ earlier) orderly =
     read_more past earlier (Waited x deposits) (x ∷ []) (start past) (ap (λ (xs : List Answer). x ∷ xs) (no_answers deposits))
-    (waited_more past earlier x deposits (reading_after_all (start past) (answers_in (happened_of earlier))) orderly.0 (follows laws who past earlier orderly.2))
+    (waited_more past earlier x deposits (reading_after_all (start past) (answers_in (happened_of earlier))) orderly.0
+    (follows laws who past earlier orderly.2))
 
 pub one_record : RecordLaws → (who : Peer) (past : List Session) (steps : List Step) → IsOrderly who past steps → IsOneRecord past steps
 one_record laws who past steps orderly = sym (follows laws who past steps orderly).has
 
 -- the same for a port that reports its record
-pub record_since : RecordLaws → (who : Peer) (past : List Session) (steps : List Step) (begun whole : List Answer) → IsOrderly who past steps → (before after : Option (List Answer)) → Reports before (answers_in (happened_of steps)) after →
-    before ≡ Some begun → after ≡ Some whole → (answers : List Answer) × (whole ≡ begun ++ answers) × (map in_record (past_after past steps) ≡ read_on past answers)
+pub record_since : RecordLaws → (who : Peer) (past : List Session) (steps : List Step) (begun whole : List Answer) →
+    IsOrderly who past steps → (before after : Option (List Answer)) → Reports before (answers_in (happened_of steps)) after →
+    before ≡ Some begun → after ≡ Some whole → (answers : List Answer) × (whole ≡ begun ++ answers) ×
+    (map in_record (past_after past steps) ≡ read_on past answers)
 record_since laws who past steps begun whole orderly before after tells some later =
     let f = tells.follows whole later in
     let same : f.0 ≡ begun = same_Some f.0 begun (sym f.1 ∙ some) in (
@@ -228,7 +259,8 @@ record_since laws who past steps begun whole orderly before after tells some lat
       one_record laws who past steps orderly,
     )
 
-pub whole_record : RecordLaws → (who : Peer) (steps : List Step) (whole : List Answer) → IsOrderly who [] steps → (before after : Option (List Answer)) → Reports before (answers_in (happened_of steps)) after →
+pub whole_record : RecordLaws → (who : Peer) (steps : List Step) (whole : List Answer) → IsOrderly who [] steps →
+    (before after : Option (List Answer)) → Reports before (answers_in (happened_of steps)) after →
     before ≡ Some [] → after ≡ Some whole → map in_record (past_after [] steps) ≡ read_on [] whole
 whole_record laws who steps whole orderly before after tells none some =
     let r = record_since laws who [] steps [] whole orderly before after tells none some in

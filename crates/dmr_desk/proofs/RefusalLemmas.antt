@@ -24,22 +24,29 @@ numbers_few plan (suc many) n = at_most (has_carrier plan n) (numbers_from plan 
 
 pub stations_few : (plan : Settings) (stations : List StationState) → AreStations plan stations → length stations ≤ 16
 stations_few plan stations are =
-    let a : length (map (λ (s : StationState). carrier_of_peer s.link.who) stations) ≡ length stations = length-map stations (λ (s : StationState). carrier_of_peer s.link.who) in
-    let b : length (map (λ (n : ℕ). Some n) (carrier_numbers plan)) ≡ length (carrier_numbers plan) = length-map (carrier_numbers plan) (λ (n : ℕ). Some n) in
+    let a : length (map (λ (s : StationState). carrier_of_peer s.link.who) stations) ≡ length stations =
+    length-map stations (λ (s : StationState). carrier_of_peer s.link.who) in
+    let b : length (map (λ (n : ℕ). Some n) (carrier_numbers plan)) ≡ length (carrier_numbers plan) =
+    length-map (carrier_numbers plan) (λ (n : ℕ). Some n) in
     let e = ap length are in
     let k = numbers_few plan 16 0 in omega arith
 
 -- stations whose numbers were compared with the plan's
-pub numbers_given : {S : Type 0} (at : S → StationState) (number : S → Option ℕ) (xs : List S) → ((s : S) → number s ≡ carrier_of_peer (at s).link.who) → map number xs ≡ map (λ (t : StationState). carrier_of_peer t.link.who) (map at xs)
+pub numbers_given : {S : Type 0} (at : S → StationState) (number : S → Option ℕ) (xs : List S) →
+    ((s : S) → number s ≡ carrier_of_peer (at s).link.who) → map number xs ≡ map (λ (t : StationState). carrier_of_peer t.link.who)
+    (map at xs)
 numbers_given at number [] same = refl
 numbers_given at number (x ∷ xs) same = let t = numbers_given at number xs same in let q = same x in cc
 
-pub are_stations_if : {S : Type 0} (at : S → StationState) (number : S → Option ℕ) (xs ys : List S) (plan other : Settings) → ((s : S) → number s ≡ carrier_of_peer (at s).link.who) → ys ≡ xs → other ≡ plan
+pub are_stations_if : {S : Type 0} (at : S → StationState) (number : S → Option ℕ) (xs ys : List S) (plan other : Settings) →
+    ((s : S) → number s ≡ carrier_of_peer (at s).link.who) → ys ≡ xs → other ≡ plan
     → map number ys ≡ map (λ (n : ℕ). Some n) (carrier_numbers other) → AreStations plan (map at xs)
 are_stations_if at number xs ys plan other same e f reported =
-    sym (numbers_given at number xs same) ∙ ap (map number) (sym e) ∙ reported ∙ ap (λ (p : Settings). map (λ (n : ℕ). Some n) (carrier_numbers p)) f
+    sym (numbers_given at number xs same) ∙ ap (map number) (sym e) ∙ reported
+    ∙ ap (λ (p : Settings). map (λ (n : ℕ). Some n) (carrier_numbers p)) f
 
-pub are_stations_then : {S : Type 0} (at : S → StationState) (number : S → Option ℕ) (xs ys : List S) (plan other : Settings) → ((s : S) → number s ≡ carrier_of_peer (at s).link.who) → ys ≡ xs → other ≡ plan
+pub are_stations_then : {S : Type 0} (at : S → StationState) (number : S → Option ℕ) (xs ys : List S) (plan other : Settings) →
+    ((s : S) → number s ≡ carrier_of_peer (at s).link.who) → ys ≡ xs → other ≡ plan
     → AreStations plan (map at xs) → map number ys ≡ map (λ (n : ℕ). Some n) (carrier_numbers other)
 are_stations_then at number xs ys plan other same e f are =
     ap (map number) e ∙ numbers_given at number xs same ∙ are ∙ ap (λ (p : Settings). map (λ (n : ℕ). Some n) (carrier_numbers p)) (sym f)
@@ -52,7 +59,8 @@ few_stations at xs plan are =
 -- ---- faults
 
 -- a fault that is found when all workers have ended, with the end to which it applies
-pub late_fault : (start : Start) (fault : TermFault) (ended : Option End) → IsLimit start.limit → is_late fault ≡ true → IsEndAt start fault ended → IsFaultFor start fault
+pub late_fault : (start : Start) (fault : TermFault) (ended : Option End) → IsLimit start.limit → is_late fault ≡ true →
+    IsEndAt start fault ended → IsFaultFor start fault
 late_fault start fault None is late at = absurd (false≢true (sym at ∙ late))
 late_fault start BadStations (Some end) is late at = absurd at
 late_fault start (Open why) (Some end) is late at = absurd at
@@ -68,14 +76,17 @@ nothing_left NoThread given late = refl
 nothing_left (Audit fault) given late = refl
 nothing_left (Early actor) given late = refl
 
-with_stations : (start : Start) (fault : TermFault) → AreStations start.site.plan start.stations → IsFaultFor start fault → IsTermFault start fault
+with_stations : (start : Start) (fault : TermFault) → AreStations start.site.plan start.stations → IsFaultFor start fault →
+    IsTermFault start fault
 with_stations start BadStations are h = absurd h
 with_stations start (Open fault) are h = (are, h)
 with_stations start NoThread are h = (are, h)
 with_stations start (Audit fault) are h = (are, h)
 with_stations start (Early actor) are h = (are, h)
 
-pub fault_result : {T E : Type 0} (start : Start) (result : Result T E) (fault : E → TermFault) → AreStations start.site.plan start.stations → IfErr result (λ e. IsFaultFor start (fault e)) → IfErr result (λ e. IsTermFault start (fault e))
+pub fault_result : {T E : Type 0} (start : Start) (result : Result T E) (fault : E → TermFault) →
+    AreStations start.site.plan start.stations → IfErr result (λ e. IsFaultFor start (fault e)) →
+    IfErr result (λ e. IsTermFault start (fault e))
 fault_result start (Ok t) fault are h = tt
 fault_result start (Err e) fault are h = with_stations start (fault e) are h
 

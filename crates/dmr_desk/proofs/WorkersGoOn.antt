@@ -29,7 +29,8 @@ get_within [] k low = absurd (omega arith)
 get_within (x ∷ xs) zero low = (x, refl)
 get_within (x ∷ xs) (suc k) low = get_within xs k (omega arith)
 
-same_by_place : {A B : Type 0} (f : A → B) (xs ys : List A) → length ys ≡ length xs → ((k : ℕ) (x y : A) → slice_get xs k ≡ Some x → slice_get ys k ≡ Some y → f y ≡ f x) → map f ys ≡ map f xs
+same_by_place : {A B : Type 0} (f : A → B) (xs ys : List A) → length ys ≡ length xs →
+    ((k : ℕ) (x y : A) → slice_get xs k ≡ Some x → slice_get ys k ≡ Some y → f y ≡ f x) → map f ys ≡ map f xs
 same_by_place f [] [] many same = refl
 same_by_place f [] (y ∷ ys) many same = absurd (omega arith)
 same_by_place f (x ∷ xs) [] many same = absurd (omega arith)
@@ -41,24 +42,35 @@ same_by_place f (x ∷ xs) (y ∷ ys) many same =
 -- ---- one term more
 
 -- the happenings of a new desk, after the deposits of the desks before it
-after_view : (s t : StationState) (view own : List Deposit) (happened : List Happening) → Happens (sides_at s []) happened (sides_at t own) → Happens (sides_at s view) happened (sides_at t (view ++ own))
+after_view : (s t : StationState) (view own : List Deposit) (happened : List Happening) →
+    Happens (sides_at s []) happened (sides_at t own) → Happens (sides_at s view) happened (sides_at t (view ++ own))
 after_view s t view own happened h = record { port = h.port; desk = ap (λ (ds : List Deposit). view ++ ds) h.desk; gate = h.gate }
 
-module _ (none : (x : Sides) → Happens x [] x) (more : (x y z : Sides) (first second : List Happening) → Happens x first y → Happens y second z → Happens x (first ++ second) z) where
+module _ (none : (x : Sides) → Happens x [] x)
+    (more : (x y z : Sides) (first second : List Happening) → Happens x first y → Happens y second z → Happens x (first ++ second) z) where
   went_nowhere : (s : StationState) → WentOn (work_state s []) (work_state s []) []
-  went_nowhere s = record { who = refl; happens = none (sides_at s []); stands = λ past h. h; view = λ past h. sym (append-nil (deposits_of_sessions past)); orderly = λ past h. tt }
+  went_nowhere s = record {
+    who = refl;
+    happens = none (sides_at s []);
+    stands = λ past h. h;
+    view = λ past h. sym (append-nil (deposits_of_sessions past));
+    orderly = λ past h. tt;
+  }
 
-  went_on : (s t u : StationState) (view own : List Deposit) (terms : List (List Step)) (steps : List Step) → WentOn (work_state s []) (work_state t view) terms → Steps (work_state t []) (work_state u own) steps
+  went_on : (s t u : StationState) (view own : List Deposit) (terms : List (List Step)) (steps : List Step) →
+      WentOn (work_state s []) (work_state t view) terms → Steps (work_state t []) (work_state u own) steps
       → WentOn (work_state s []) (work_state u (view ++ own)) (steps ∷ terms)
   went_on s t u view own terms steps before now = record {
     who = now.who ∙ before.who;
-    happens = more (sides_at s []) (sides_at t view) (sides_at u (view ++ own)) (happened_of_terms terms) (happened_of steps) before.happens (after_view t u view own (happened_of steps) now.happens);
+    happens = more (sides_at s []) (sides_at t view) (sides_at u (view ++ own)) (happened_of_terms terms) (happened_of steps) before.happens
+        (after_view t u view own (happened_of steps) now.happens);
     stands = λ past h. now.stands (past_after_terms past terms) (before.stands past h);
     view = λ past h.
         now.view (past_after_terms past terms) (before.stands past h)
         ∙ ap (λ (ds : List Deposit). ds ++ deposits_in (happened_of steps)) (before.view past h)
         ∙ append_assoc (deposits_of_sessions past) (deposits_in (happened_of_terms terms)) (deposits_in (happened_of steps))
-        ∙ ap (λ (ds : List Deposit). deposits_of_sessions past ++ ds) (sym (filter_map-append desk_deposit (happened_of_terms terms) (happened_of steps)));
+        ∙ ap (λ (ds : List Deposit). deposits_of_sessions past ++ ds)
+        (sym (filter_map-append desk_deposit (happened_of_terms terms) (happened_of steps)));
     orderly = λ past h.
         let P : Peer → Type 0 = λ p. IsOrderly p (past_after_terms past terms) steps in
         (subst P before.who (now.orderly (past_after_terms past terms) (before.stands past h)), before.orderly past h);
@@ -66,7 +78,8 @@ module _ (none : (x : Sides) → Happens x [] x) (more : (x y z : Sides) (first 
 
   -- ---- all terms
 
-  pub carrier_works : (start : Start) (ends : List End) (k : ℕ) (s t : StationState) → AreTerms start ends → slice_get start.stations k ≡ Some s → slice_get (start_after start ends).stations k ≡ Some t
+  pub carrier_works : (start : Start) (ends : List End) (k : ℕ) (s t : StationState) → AreTerms start ends →
+      slice_get start.stations k ≡ Some s → slice_get (start_after start ends).stations k ≡ Some t
       → HasWorkedOn (length ends) s t (view_of k (joined_journal ends))
   carrier_works start [] k s t are here there =
       let P : StationState → Type 0 = λ x. HasWorkedOn 0 s x [] in
@@ -85,10 +98,12 @@ module _ (none : (x : Sides) → Happens x [] x) (more : (x y z : Sides) (first 
       let P : List Deposit → Type 0 = λ view. WentOn (work_state s []) (work_state t view) (work.0 ∷ before.0) in (
         work.0 ∷ before.0,
         omega arith,
-        subst P (sym (view_append k (joined_journal earlier) end.journal)) (went_on s middle.0 t (view_of k (joined_journal earlier)) (view_of k end.journal) before.0 work.0 before.2 work.1),
+        subst P (sym (view_append k (joined_journal earlier) end.journal))
+            (went_on s middle.0 t (view_of k (joined_journal earlier)) (view_of k end.journal) before.0 work.0 before.2 work.1),
       )
 
-  pub console_works : (start : Start) (ends : List End) → AreTerms start ends → HasWorkedOn (length ends) start.console (start_after start ends).console (view_of (length start.stations + 1) (joined_journal ends))
+  pub console_works : (start : Start) (ends : List End) → AreTerms start ends →
+      HasWorkedOn (length ends) start.console (start_after start ends).console (view_of (length start.stations + 1) (joined_journal ends))
   console_works start [] are = ([], refl, went_nowhere start.console)
   console_works start (end ∷ earlier) are =
       let run = are.0.run in
@@ -98,14 +113,18 @@ module _ (none : (x : Sides) → Happens x [] x) (more : (x y z : Sides) (first 
       let many = run.ended.actors in
       let ending = get_within end.ends (length (start_after start earlier).stations + 1) (omega arith) in
       let before = console_works start earlier are.1 in
-      let work = run.ended.console ending.0 (view_of (length (start_after start earlier).stations + 1) end.journal) ending.1 (run.views (length (start_after start earlier).stations + 1) (omega arith)) in
+      let work = run.ended.console ending.0 (view_of (length (start_after start earlier).stations + 1) end.journal) ending.1
+      (run.views (length (start_after start earlier).stations + 1) (omega arith)) in
       let count = before.1 in
-      let own : view_of (length (start_after start earlier).stations + 1) end.journal ≡ view_of (length start.stations + 1) end.journal = ap (λ (n : ℕ). view_of (n + 1) end.journal) stay in
+      let own : view_of (length (start_after start earlier).stations + 1) end.journal ≡ view_of (length start.stations + 1) end.journal =
+      ap (λ (n : ℕ). view_of (n + 1) end.journal) stay in
       let P : List Deposit → Type 0 = λ view. WentOn (work_state start.console []) (work_state end.console view) (work.0 ∷ before.0) in (
         work.0 ∷ before.0,
         omega arith,
-        subst P (ap (λ (ds : List Deposit). view_of (length start.stations + 1) (joined_journal earlier) ++ ds) own ∙ sym (view_append (length start.stations + 1) (joined_journal earlier) end.journal))
-            (went_on start.console middle.console end.console (view_of (length start.stations + 1) (joined_journal earlier)) (view_of (length (start_after start earlier).stations + 1) end.journal) before.0 work.0 before.2 work.1),
+        subst P (ap (λ (ds : List Deposit). view_of (length start.stations + 1) (joined_journal earlier) ++ ds) own
+            ∙ sym (view_append (length start.stations + 1) (joined_journal earlier) end.journal))
+            (went_on start.console middle.console end.console (view_of (length start.stations + 1) (joined_journal earlier))
+            (view_of (length (start_after start earlier).stations + 1) end.journal) before.0 work.0 before.2 work.1),
       )
 
   -- the next term can begin, if the first could
@@ -113,7 +132,8 @@ module _ (none : (x : Sides) → Happens x [] x) (more : (x y z : Sides) (first 
   all_fit start ends are fits =
       let carrier : StationState → Option ℕ = λ s. carrier_of_peer s.link.who in
       let same : map carrier (start_after start ends).stations ≡ map carrier start.stations =
-      same_by_place carrier start.stations (start_after start ends).stations (stations_stay start ends are) (λ k s t here there. ap carrier_of_peer (carrier_works start ends k s t are here there).2.who) in
+      same_by_place carrier start.stations (start_after start ends).stations (stations_stay start ends are)
+      (λ k s t here there. ap carrier_of_peer (carrier_works start ends k s t are here there).2.who) in
       let plan : (start_after start ends).site.plan ≡ start.site.plan = ap (λ (s : SiteState). s.plan) (one_journal start ends are).1 in
       let P : ℕ → Type 0 = IsLimit in (
         same ∙ fits.0 ∙ ap (λ (p : Settings). map (λ (n : ℕ). Some n) (carrier_numbers p)) (sym plan),
@@ -126,19 +146,23 @@ in_record_twice : (past : List Session) → map in_record (map in_record past) �
 in_record_twice [] = refl
 in_record_twice (s ∷ ss) = ap (λ (rest : List Session). in_record s ∷ rest) (in_record_twice ss)
 
-pub records_of_terms : ((who : Peer) (past : List Session) (steps : List Step) → IsOrderly who past steps → IsOneRecord past steps) → (who : Peer) (past : List Session) (terms : List (List Step)) → AreOrderly who past terms
+pub records_of_terms : ((who : Peer) (past : List Session) (steps : List Step) → IsOrderly who past steps → IsOneRecord past steps) →
+    (who : Peer) (past : List Session) (terms : List (List Step)) → AreOrderly who past terms
     → map in_record (past_after_terms past terms) ≡ read_terms past (answers_of_terms terms)
 records_of_terms one who past [] orderly = refl
 records_of_terms one who past (steps ∷ earlier) orderly =
     let same : map in_record (past_after_terms past earlier) ≡ map in_record (read_terms past (answers_of_terms earlier)) =
     sym (in_record_twice (past_after_terms past earlier)) ∙ ap (map in_record) (records_of_terms one who past earlier orderly.1) in
-    one who (past_after_terms past earlier) steps orderly.0 ∙ ap (λ (ss : List Session). (reading_after_all (reading_at ss 0 0 0) (answers_in (happened_of steps))).past) same
+    one who (past_after_terms past earlier) steps orderly.0 ∙ ap
+    (λ (ss : List Session). (reading_after_all (reading_at ss 0 0 0) (answers_in (happened_of steps))).past) same
 
 answers_joined : (terms : List (List Step)) → answers_in (happened_of_terms terms) ≡ joined_answers (answers_of_terms terms)
 answers_joined [] = refl
-answers_joined (steps ∷ earlier) = filter_map-append port_answer (happened_of_terms earlier) (happened_of steps) ∙ ap (λ (xs : List Answer). xs ++ answers_in (happened_of steps)) (answers_joined earlier)
+answers_joined (steps ∷ earlier) = filter_map-append port_answer (happened_of_terms earlier) (happened_of steps)
+    ∙ ap (λ (xs : List Answer). xs ++ answers_in (happened_of steps)) (answers_joined earlier)
 
-pub answers_since : (m n : WorkState) (terms : List (List Step)) (begun whole : List Answer) → WentOn m n terms → m.at.reported ≡ Some begun → n.at.reported ≡ Some whole → whole ≡ begun ++ joined_answers (answers_of_terms terms)
+pub answers_since : (m n : WorkState) (terms : List (List Step)) (begun whole : List Answer) → WentOn m n terms →
+    m.at.reported ≡ Some begun → n.at.reported ≡ Some whole → whole ≡ begun ++ joined_answers (answers_of_terms terms)
 answers_since m n terms begun whole went before after =
     let f = went.happens.port.follows whole after in
     let same : f.0 ≡ begun = same_Some f.0 begun (sym f.1 ∙ before) in

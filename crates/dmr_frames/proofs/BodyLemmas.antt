@@ -47,13 +47,21 @@ pad_zero x e = at (x % 16 == 0) refl e
 pub rx_body : (b : Bool) (body : List ℕ) → IsWhole b kind.Rx body → IsRxBody b body
 rx_body false [] w = absurd (omega (arith, w.all))
 rx_body false (slot ∷ octets) w =
-    let len : length octets ≡ 25 = omega (arith, w.all) in
-    (slot_small slot (w.fitting 0 (omega arith)), len, pad-last octets ∙ pad_zero (get_or octets 24 0) (w.fitting 25 (omega (arith, w.all))))
+    let len : length octets ≡ 25 = omega (arith, w.all) in (
+      slot_small slot (w.fitting 0 (omega arith)),
+      len,
+      pad-last octets ∙ pad_zero (get_or octets 24 0)
+          (w.fitting 25 (omega (arith, w.all))),
+    )
 rx_body true [] w = absurd (omega (arith, w.all))
 rx_body true (number ∷ []) w = absurd (omega (arith, w.all))
 rx_body true (number ∷ slot ∷ octets) w =
-    let len : length octets ≡ 25 = omega (arith, w.all) in
-    (slot_small slot (w.fitting 1 (omega arith)), len, pad-last octets ∙ pad_zero (get_or octets 24 0) (w.fitting 26 (omega (arith, w.all))))
+    let len : length octets ≡ 25 = omega (arith, w.all) in (
+      slot_small slot (w.fitting 1 (omega arith)),
+      len,
+      pad-last octets ∙ pad_zero (get_or octets 24 0)
+          (w.fitting 26 (omega (arith, w.all))),
+    )
 
 pub active_body : (b : Bool) (body : List ℕ) → IsWhole b kind.Active body → IsActiveBody body
 active_body b [] w = absurd (omega (arith, w.all))
@@ -95,8 +103,17 @@ unfolding rx_step burst_step
 rx_step_is false [] w = absurd (omega (arith, w.all))
 rx_step_is false (slot ∷ octets) w =
     let is : IsBurst (slot ∷ octets) = rx_body false (slot ∷ octets) w in
-    let same : octets ≡ word_octets (word_of octets) = sym (word_octets-word_of octets (small-at octets is.1 (small-tail slot octets w.small)) is.2) in
-    record { number = None; slot = slot; word = word_of octets; brings = refl; numbered = tt; fits = (is.0, word_length octets); spells = ap (λ (xs : List ℕ). 2 ∷ 26 ∷ slot ∷ xs) same }
+    let same : octets ≡ word_octets (word_of octets) =
+    sym (word_octets-word_of octets (small-at octets is.1 (small-tail slot octets w.small)) is.2) in
+    record {
+      number = None;
+      slot = slot;
+      word = word_of octets;
+      brings = refl;
+      numbered = tt;
+      fits = (is.0, word_length octets);
+      spells = ap (λ (xs : List ℕ). 2 ∷ 26 ∷ slot ∷ xs) same;
+    }
 rx_step_is true [] w = absurd (omega (arith, w.all))
 rx_step_is true (number ∷ []) w = absurd (omega (arith, w.all))
 rx_step_is true (number ∷ slot ∷ octets) w =
@@ -113,7 +130,8 @@ rx_step_is true (number ∷ slot ∷ octets) w =
       spells = ap (λ (xs : List ℕ). 2 ∷ 27 ∷ number ∷ slot ∷ xs) same;
     }
 
-pub rx_whole : (v : Version) (body : List ℕ) → IsWhole (has_numbers v) kind.Rx body → IsFrameStep v kind.Rx body (rx_step (has_numbers v) body)
+pub rx_whole : (v : Version) (body : List ℕ) → IsWhole (has_numbers v) kind.Rx body →
+    IsFrameStep v kind.Rx body (rx_step (has_numbers v) body)
 rx_whole v body w =
     let is : IsRxStep (has_numbers v) body = rx_step_is (has_numbers v) body w in
     (Rx is.number is.slot is.word, is.brings, (is.numbered, is.fits.0, is.fits.1), is.spells)
@@ -122,7 +140,8 @@ pub none_left : (body : List ℕ) → length body ≡ 0 → body ≡ []
 none_left [] e = refl
 none_left (x ∷ body) e = absurd (omega (arith, e))
 
-pub active_whole : (v : Version) (body : List ℕ) → IsWhole (has_numbers v) kind.Active body → IsFrameStep v kind.Active body (active_step body)
+pub active_whole : (v : Version) (body : List ℕ) → IsWhole (has_numbers v) kind.Active body →
+    IsFrameStep v kind.Active body (active_step body)
 unfolding active_step
 active_whole v [] w = absurd (omega (arith, w.all))
 active_whole v (slot ∷ []) w = (Active slot, refl, active_body (has_numbers v) (slot ∷ []) w, refl)
@@ -133,7 +152,8 @@ active_whole v (slot ∷ x ∷ body) w = absurd (omega (arith, w.all))
 slot-fits : (x : ℕ) → x < 2 → cond (nat_lt x 2) None (Some BadSlot) ≡ None
 slot-fits x lt = rw (lt-ltb x 2 lt) refl
 
-word-fits : (b : Bool) (octets : List ℕ) (i : ℕ) → get_or octets 24 0 % 16 ≡ 0 → fields_fault b (field.Word ∷ []) i (get_or octets i 0) ≡ None
+word-fits : (b : Bool) (octets : List ℕ) (i : ℕ) → get_or octets 24 0 % 16 ≡ 0 →
+    fields_fault b (field.Word ∷ []) i (get_or octets i 0) ≡ None
 word-fits b octets i pad = at (nat_lt i 25) (i == 24) refl
   where
     at : (a c : Bool) → (i == 24) ≡ c → cond a (cond c (cond (get_or octets i 0 % 16 == 0) None (Some BadPad)) None) None ≡ None
@@ -147,7 +167,8 @@ plain-fits : (slot : ℕ) (octets : List ℕ) → slot < 2 → get_or octets 24 
 plain-fits slot octets small pad zero lt = slot-fits slot small
 plain-fits slot octets small pad (suc i) lt = plain_word i (get_or octets i 0) ∙ word-fits false octets i pad
 
-numbered-fits : (number slot : ℕ) (octets : List ℕ) → slot < 2 → get_or octets 24 0 % 16 ≡ 0 → AreFitting true kind.Rx (number ∷ slot ∷ octets)
+numbered-fits : (number slot : ℕ) (octets : List ℕ) → slot < 2 → get_or octets 24 0 % 16 ≡ 0 →
+    AreFitting true kind.Rx (number ∷ slot ∷ octets)
 numbered-fits number slot octets small pad zero lt = refl
 numbered-fits number slot octets small pad (suc zero) lt = slot-fits slot small
 numbered-fits number slot octets small pad (suc (suc i)) lt = numbered_word i (get_or octets i 0) ∙ word-fits true octets i pad
@@ -174,14 +195,19 @@ pub record IsRxSpelled (b : Bool) (number : Option ℕ) (slot : ℕ) (word : Lis
   pub spelled : spelling (Rx number slot word) ≡ 2 ∷ body_length b kind.Rx ∷ body
   pub again : rx_step b body ≡ Frame (Rx number slot word)
 
-pub rx_spelled : (b : Bool) (number : Option ℕ) (slot : ℕ) (word : List Bool) → IsNumberWhere b number → slot < 2 → length word ≡ 196 → IsRxSpelled b number slot word
+pub rx_spelled : (b : Bool) (number : Option ℕ) (slot : ℕ) (word : List Bool) → IsNumberWhere b number → slot < 2 → length word ≡ 196 →
+    IsRxSpelled b number slot word
 unfolding rx_step burst_step
 rx_spelled false None slot word is lt len =
     let octets : List ℕ = word_octets word in
     let are : IsOctets 25 octets = word_octets-octets word in
     record {
       body = slot ∷ octets;
-      whole = record { all = omega (arith, are.len); small = small-cons slot octets (omega (arith, lt)) are.small; fitting = plain-fits slot octets lt (word-pad word len) };
+      whole = record {
+        all = omega (arith, are.len);
+        small = small-cons slot octets (omega (arith, lt)) are.small;
+        fitting = plain-fits slot octets lt (word-pad word len);
+      };
       spelled = refl;
       again = ap (λ (w : List Bool). Frame (Rx None slot w)) (word_of-word_octets word len);
     }

@@ -76,7 +76,8 @@ hello_free : AreFree (frame_row kind.Hello).body
 hello_free = ((λ place x. refl), ((λ place x. refl), ((λ place x. refl), tt)))
 
 -- if an octet of a body is a fault, the fault is that of its place
-pub cause_at : (b : Bool) (k : FrameKind) (place x : ℕ) (cause : Cause) → IsCarriers k → body_fault b k place x ≡ Some cause → fault_at b (suc (suc place)) ≡ Some cause
+pub cause_at : (b : Bool) (k : FrameKind) (place x : ℕ) (cause : Cause) → IsCarriers k → body_fault b k place x ≡ Some cause →
+    fault_at b (suc (suc place)) ≡ Some cause
 cause_at b kind.Hello place x cause is e = free_cause b kind.Hello place x cause hello_free e
 cause_at b kind.Rx place x cause is e = rx_cause b place x cause e
 cause_at b kind.Poll place x cause is e = free_cause b kind.Poll place x cause tt e
@@ -107,7 +108,8 @@ zero_none : (b : Bool) (fields : List Field) (place : ℕ) → fields_fault b fi
 zero_none b [] place = refl
 zero_none b (f ∷ fields) place = at (nat_lt place (field_length b f)) (zero_none b fields (place - field_length b f))
   where
-    at : (c : Bool) → fields_fault b fields (place - field_length b f) 0 ≡ None → cond c (field_fault f place 0) (fields_fault b fields (place - field_length b f) 0) ≡ None
+    at : (c : Bool) → fields_fault b fields (place - field_length b f) 0 ≡ None →
+        cond c (field_fault f place 0) (fields_fault b fields (place - field_length b f) 0) ≡ None
     at true later = zero-field f place
     at false later = later
 
@@ -121,11 +123,13 @@ zeros_at n k =
 fitting-zeros : (b : Bool) (k : FrameKind) (body : List ℕ) (n : ℕ) → AreFitting b k body → AreFitting b k (body ++ replicate n 0)
 fitting-zeros b k body n h = fitting-append b k body (replicate n 0) h (λ i past lt.
     let P : ℕ → Type 0 = λ y. body_fault b k i y ≡ None in
-    let at : get_or (body ++ replicate n 0) i 0 ≡ 0 = get_or-append_right body (replicate n 0) (length body) i 0 refl past ∙ zeros_at n (i - length body) in
+    let at : get_or (body ++ replicate n 0) i 0 ≡ 0 =
+    get_or-append_right body (replicate n 0) (length body) i 0 refl past ∙ zeros_at n (i - length body) in
     subst P (sym at) (zero_none b (frame_row k).body i))
 
 -- a body that has begun continues with zeros
-pub whole-zeros : (b : Bool) (k : FrameKind) (body : List ℕ) (n : ℕ) → AreSmall body → AreFitting b k body → length body + n ≡ body_length b k → IsWhole b k (body ++ replicate n 0)
+pub whole-zeros : (b : Bool) (k : FrameKind) (body : List ℕ) (n : ℕ) → AreSmall body → AreFitting b k body →
+    length body + n ≡ body_length b k → IsWhole b k (body ++ replicate n 0)
 whole-zeros b k body n small fitting e = record {
   all = omega (arith, e, length-append body (replicate n 0), length-replicate {A = ℕ} n 0);
   small = small-append body (replicate n 0) small (small-zeros n);
@@ -139,7 +143,8 @@ one_slot b [] len is = absurd is
 one_slot b (slot ∷ []) len is = active-fits b slot is
 one_slot b (slot ∷ x ∷ body) len is = absurd (omega (arith, len))
 
-clean_fits : (b : Bool) (k : FrameKind) (body : List ℕ) → IsCarriers k → length body ≡ body_length b k → IsClean b k body → AreFitting b k body
+clean_fits : (b : Bool) (k : FrameKind) (body : List ℕ) → IsCarriers k → length body ≡ body_length b k → IsClean b k body →
+    AreFitting b k body
 clean_fits b kind.Hello body is len clean = λ i lt. free_none b (frame_row kind.Hello).body i (get_or body i 0) hello_free
 clean_fits b kind.Rx body is len clean = rx-fits b body clean
 clean_fits b kind.Poll body is len clean = λ i lt. refl
@@ -150,7 +155,8 @@ clean_fits b kind.Tx body is len clean = absurd is
 clean_fits b kind.Done body is len clean = absurd is
 clean_fits b kind.Refused body is len clean = absurd is
 
-pub clean-whole : (b : Bool) (k : FrameKind) (body : List ℕ) → IsCarriers k → length body ≡ body_length b k → AreSmall body → IsClean b k body → IsWhole b k body
+pub clean-whole : (b : Bool) (k : FrameKind) (body : List ℕ) → IsCarriers k → length body ≡ body_length b k → AreSmall body →
+    IsClean b k body → IsWhole b k body
 clean-whole b k body is len small clean = record { all = len; small = small; fitting = clean_fits b k body is len clean }
 
 pub whole-clean : (b : Bool) (k : FrameKind) (body : List ℕ) → IsWhole b k body → IsClean b k body
@@ -166,7 +172,8 @@ whole-clean b kind.Refused body w = tt
 
 -- ---- a whole body is that of a frame
 
-pub whole_frame : (v : Version) (k : FrameKind) (body : List ℕ) → IsCarriersIn v k → IsWhole (has_numbers v) k body → IsFrameStep v k body (whole_step (has_numbers v) k body)
+pub whole_frame : (v : Version) (k : FrameKind) (body : List ℕ) → IsCarriersIn v k → IsWhole (has_numbers v) k body →
+    IsFrameStep v k body (whole_step (has_numbers v) k body)
 unfolding whole_step
 whole_frame v kind.Hello body is w = hello_whole v body w
 whole_frame v kind.Rx body is w = rx_whole v body w
@@ -203,7 +210,8 @@ frame_spelled v (Hello version carrier l) is = record {
     all = refl;
     small = small-cons version (carrier ∷ (l / 256) ∷ (l % 256) ∷ []) is.0 (small-cons carrier ((l / 256) ∷ (l % 256) ∷ []) is.1
         (small-cons (l / 256) ((l % 256) ∷ []) (omega (arith, is.2)) (small-cons (l % 256) [] (omega arith) none_small)));
-    fitting = λ i lt. free_none (has_numbers v) (frame_row kind.Hello).body i (get_or (version ∷ carrier ∷ (l / 256) ∷ (l % 256) ∷ []) i 0) hello_free;
+    fitting = λ i lt. free_none (has_numbers v) (frame_row kind.Hello).body i
+        (get_or (version ∷ carrier ∷ (l / 256) ∷ (l % 256) ∷ []) i 0) hello_free;
   };
   spelled = refl;
   again = ap (λ (n : ℕ). Frame (Hello version carrier n)) (halves l);
@@ -211,7 +219,14 @@ frame_spelled v (Hello version carrier l) is = record {
 frame_spelled v (Rx number slot word) is =
     let s : IsRxSpelled (has_numbers v) number slot word = rx_spelled (has_numbers v) number slot word is.0 is.1 is.2 in
     record { which = kind.Rx; body = s.body; known = refl; whole = s.whole; spelled = s.spelled; again = s.again }
-frame_spelled v Poll is = record { which = kind.Poll; body = []; known = refl; whole = record { all = refl; small = none_small; fitting = λ i lt. refl }; spelled = refl; again = refl }
+frame_spelled v Poll is = record {
+  which = kind.Poll;
+  body = [];
+  known = refl;
+  whole = record { all = refl; small = none_small; fitting = λ i lt. refl };
+  spelled = refl;
+  again = refl;
+}
 frame_spelled v (Active slot) is = record {
   which = kind.Active;
   body = slot ∷ [];
@@ -220,7 +235,14 @@ frame_spelled v (Active slot) is = record {
   spelled = refl;
   again = refl;
 }
-frame_spelled v Bye is = record { which = kind.Bye; body = []; known = refl; whole = record { all = refl; small = none_small; fitting = λ i lt. refl }; spelled = refl; again = refl }
+frame_spelled v Bye is = record {
+  which = kind.Bye;
+  body = [];
+  known = refl;
+  whole = record { all = refl; small = none_small; fitting = λ i lt. refl };
+  spelled = refl;
+  again = refl;
+}
 
 -- the result of a body is the same in versions in which it has the same length
 pub same_step : (b c : Bool) (k : FrameKind) (body : List ℕ) → body_length b k ≡ body_length c k → whole_step b k body ≡ whole_step c k body

@@ -16,11 +16,13 @@ pub use Rattle.dmr_frames.proofs.ReadingLemmas.{reads_on}
 pub use Rattle.dmr_frames.proofs.ReadingLemmas.{open-produces, spelling-produces}
 
 -- two pieces produce the frames of the first, and then those of the second from the rest of the first
-pub frames_from-append : (rest : Rest) (a b : List ℕ) → frames_from rest (a ++ b) ≡ frames_from rest a ++ frames_from (rest_after_octets rest a) b
+pub frames_from-append : (rest : Rest) (a b : List ℕ) → frames_from rest (a ++ b) ≡ frames_from rest a ++ frames_from
+    (rest_after_octets rest a) b
 frames_from-append rest a b = items-append rest_after_octet step_from frame_of rest a b
 
 -- two pieces leave the rest that the second leaves of that of the first
-pub rest_after_octets-append : (rest : Rest) (a b : List ℕ) → rest_after_octets rest (a ++ b) ≡ rest_after_octets (rest_after_octets rest a) b
+pub rest_after_octets-append : (rest : Rest) (a b : List ℕ) → rest_after_octets rest (a ++ b) ≡ rest_after_octets
+    (rest_after_octets rest a) b
 rest_after_octets-append rest a b = fold-append rest_after_octet rest a b
 
 -- a version's octet names it

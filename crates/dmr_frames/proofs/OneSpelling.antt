@@ -36,13 +36,16 @@ spelling-small v f is =
     let s : IsSpelled v f = frame_spelled v f is in
     let P : List ℕ → Type 0 = λ xs. AreSmall xs in
     let len : body_length (has_numbers v) s.which < 256 = omega (arith, length-most (has_numbers v) s.which) in
-    subst P (sym s.spelled) (small-cons (frame_row s.which).octet (body_length (has_numbers v) s.which ∷ s.body) (octet_small s.which) (small-cons (body_length (has_numbers v) s.which) s.body len s.whole.small))
+    subst P (sym s.spelled) (small-cons (frame_row s.which).octet (body_length (has_numbers v) s.which ∷ s.body) (octet_small s.which)
+    (small-cons (body_length (has_numbers v) s.which) s.body len s.whole.small))
 
 pub frame_same : (f g : FrameIn) → Frame f ≡ Frame g → f ≡ g
 frame_same f g e = cc
 
-bodies_same : (v w : Version) (f g : FrameIn) (k : FrameKind) (a b x y : List ℕ) → IsWhole (has_numbers v) k a → IsWhole (has_numbers w) k b →
-    body_length (has_numbers v) k ≡ body_length (has_numbers w) k → a ++ x ≡ b ++ y → whole_step (has_numbers v) k a ≡ Frame f → whole_step (has_numbers w) k b ≡ Frame g → (f ≡ g) × (x ≡ y)
+bodies_same : (v w : Version) (f g : FrameIn) (k : FrameKind) (a b x y : List ℕ) → IsWhole (has_numbers v) k a →
+    IsWhole (has_numbers w) k b →
+    body_length (has_numbers v) k ≡ body_length (has_numbers w) k → a ++ x ≡ b ++ y → whole_step (has_numbers v) k a ≡ Frame f →
+    whole_step (has_numbers w) k b ≡ Frame g → (f ≡ g) × (x ≡ y)
 bodies_same v w f g k a b x y ha hb len e fa gb =
     let n : ℕ = body_length (has_numbers v) k in
     let same : a ≡ b = sym (take_at a x n ha.all) ∙ ap (take n) e ∙ take_at b y n (hb.all ∙ sym len) in
@@ -50,17 +53,22 @@ bodies_same v w f g k a b x y ha hb len e fa gb =
     (frame_same f g (sym fa ∙ same_step (has_numbers v) (has_numbers w) k a len ∙ ap (whole_step (has_numbers w) k) same ∙ gb), behind)
 
 -- no spelling continues as another, of whichever versions the two are
-pub spelled_once : (v w : Version) (f g : FrameIn) (x y : List ℕ) → IsFrame v f → IsFrame w g → spelling f ++ x ≡ spelling g ++ y → (f ≡ g) × (x ≡ y)
+pub spelled_once : (v w : Version) (f g : FrameIn) (x y : List ℕ) → IsFrame v f → IsFrame w g → spelling f ++ x ≡ spelling g ++ y → (f ≡ g)
+    × (x ≡ y)
 spelled_once v w f g x y hf hg e =
     let s : IsSpelled v f = frame_spelled v f hf in
     let t : IsSpelled w g = frame_spelled w g hg in
-    let whole : (frame_row s.which).octet ∷ body_length (has_numbers v) s.which ∷ (s.body ++ x) ≡ (frame_row t.which).octet ∷ body_length (has_numbers w) t.which ∷ (t.body ++ y) =
+    let whole : (frame_row s.which).octet ∷ body_length (has_numbers v) s.which ∷ (s.body ++ x) ≡ (frame_row t.which).octet ∷ body_length
+    (has_numbers w) t.which ∷ (t.body ++ y) =
     ap (λ (xs : List ℕ). xs ++ x) (sym s.spelled) ∙ e ∙ ap (λ (xs : List ℕ). xs ++ y) t.spelled in
     let octet : (frame_row s.which).octet ≡ (frame_row t.which).octet = cc in
     let len : body_length (has_numbers v) s.which ≡ body_length (has_numbers w) t.which = cc in
     let behind : s.body ++ x ≡ t.body ++ y = cc in
-    let which : t.which ≡ s.which = kind_same w v (frame_row t.which).octet t.which s.which t.known (ap (carrier_kind v) (sym octet) ∙ s.known) in
-    let P : FrameKind → Type 0 = λ k. IsWhole (has_numbers w) k t.body × (body_length (has_numbers v) s.which ≡ body_length (has_numbers w) k) × (whole_step (has_numbers w) k t.body ≡ Frame g) in
-    let is : IsWhole (has_numbers w) s.which t.body × (body_length (has_numbers v) s.which ≡ body_length (has_numbers w) s.which) × (whole_step (has_numbers w) s.which t.body ≡ Frame g) =
+    let which : t.which ≡ s.which =
+    kind_same w v (frame_row t.which).octet t.which s.which t.known (ap (carrier_kind v) (sym octet) ∙ s.known) in
+    let P : FrameKind → Type 0 = λ k. IsWhole (has_numbers w) k t.body ×
+    (body_length (has_numbers v) s.which ≡ body_length (has_numbers w) k) × (whole_step (has_numbers w) k t.body ≡ Frame g) in
+    let is : IsWhole (has_numbers w) s.which t.body × (body_length (has_numbers v) s.which ≡ body_length (has_numbers w) s.which) ×
+    (whole_step (has_numbers w) s.which t.body ≡ Frame g) =
     subst P which (t.whole, len, t.again) in
     bodies_same v w f g s.which s.body t.body x y s.whole is.0 is.1 behind s.again is.2

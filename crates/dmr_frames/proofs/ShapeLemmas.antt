@@ -16,7 +16,8 @@ use Rattle.dmr_frames.proofs.OneSpelling.{Follows, follows}
 
 -- ---- an open front has this shape
 
-front_shape : (b : Bool) (k : FrameKind) (rest : List ℕ) (x : ℕ) (more body : List ℕ) → IsWhole b k body → rest ++ x ∷ more ≡ body_length b k ∷ body → IsShapeOf b (Some k) rest
+front_shape : (b : Bool) (k : FrameKind) (rest : List ℕ) (x : ℕ) (more body : List ℕ) → IsWhole b k body →
+    rest ++ x ∷ more ≡ body_length b k ∷ body → IsShapeOf b (Some k) rest
 front_shape b k [] x more body w e = tt
 front_shape b k (n ∷ front) x more body w e =
     let len : n ≡ body_length b k = cc in
@@ -40,18 +41,21 @@ shape-from_open v (octet ∷ rest) (f, x, more, is, e) =
 
 -- ---- octets of this shape are an open front
 
-open_kind : (v : Version) (octet : ℕ) (k : FrameKind) (rest : List ℕ) → carrier_kind v octet ≡ Some k → IsShapeOf (has_numbers v) (Some k) rest → IsOpen v (octet ∷ rest)
+open_kind : (v : Version) (octet : ℕ) (k : FrameKind) (rest : List ℕ) → carrier_kind v octet ≡ Some k →
+    IsShapeOf (has_numbers v) (Some k) rest → IsOpen v (octet ∷ rest)
 open_kind v octet k [] known h =
     let found : (octet ≡ (frame_row k).octet) × IsCarriersIn v k = kind_found v octet k known in
     let n : ℕ = body_length (has_numbers v) k in
-    let frame : IsFrameStep v k (replicate n 0) (whole_step (has_numbers v) k (replicate n 0)) = whole_frame v k (replicate n 0) found.1 (whole-zeros (has_numbers v) k [] n none_small (λ i lt. absurd (omega arith)) (omega arith)) in
+    let frame : IsFrameStep v k (replicate n 0) (whole_step (has_numbers v) k (replicate n 0)) = whole_frame v k (replicate n 0) found.1
+    (whole-zeros (has_numbers v) k [] n none_small (λ i lt. absurd (omega arith)) (omega arith)) in
     (frame.0, n, replicate n 0, frame.2, ap (λ (o : ℕ). o ∷ n ∷ replicate n 0) found.0 ∙ frame.3)
 open_kind v octet k (n ∷ body) known h =
     let found : (octet ≡ (frame_row k).octet) × IsCarriersIn v k = kind_found v octet k known in
     let m : ℕ = body_length (has_numbers v) k - length body - 1 in
     let full : length body + suc m ≡ body_length (has_numbers v) k = omega (arith, h.1.short) in
     let all : List ℕ = body ++ replicate (suc m) 0 in
-    let frame : IsFrameStep v k all (whole_step (has_numbers v) k all) = whole_frame v k all found.1 (whole-zeros (has_numbers v) k body (suc m) h.1.small h.1.fitting full) in
+    let frame : IsFrameStep v k all (whole_step (has_numbers v) k all) =
+    whole_frame v k all found.1 (whole-zeros (has_numbers v) k body (suc m) h.1.small h.1.fitting full) in
     (frame.0, 0, replicate m 0, frame.2, ap (λ (o : ℕ). o ∷ n ∷ all) found.0 ∙ ap (λ (o : ℕ). (frame_row k).octet ∷ o ∷ all) h.0 ∙ frame.3)
 
 pub open-from_shape : (v : Version) (q : List ℕ) → IsShape v q → IsOpen v q

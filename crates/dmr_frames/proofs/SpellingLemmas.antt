@@ -12,10 +12,13 @@ use Rattle.dmr_frames.specs.Table.{body_length}
 use Rattle.dmr_frames.specs.Versions.{has_numbers, version_by}
 use Rattle.dmr_frames.specs.Limits.{longest_frame}
 
-same_words : (v w : List Bool) (x y : List ℕ) → length v ≡ 196 → length w ≡ 196 → word_octets v ++ x ≡ word_octets w ++ y → (v ≡ w) × (x ≡ y)
+same_words : (v w : List Bool) (x y : List ℕ) → length v ≡ 196 → length w ≡ 196 → word_octets v ++ x ≡ word_octets w ++ y → (v ≡ w) ×
+    (x ≡ y)
 same_words v w x y lv lw e =
-    let front : word_octets v ≡ word_octets w = sym (take_at (word_octets v) x 25 (word_octets-octets v).len) ∙ ap (take 25) e ∙ take_at (word_octets w) y 25 (word_octets-octets w).len in
-    let back : x ≡ y = sym (drop_at (word_octets v) x 25 (word_octets-octets v).len) ∙ ap (drop 25) e ∙ drop_at (word_octets w) y 25 (word_octets-octets w).len in
+    let front : word_octets v ≡ word_octets w = sym (take_at (word_octets v) x 25 (word_octets-octets v).len) ∙ ap (take 25) e
+    ∙ take_at (word_octets w) y 25 (word_octets-octets w).len in
+    let back : x ≡ y = sym (drop_at (word_octets v) x 25 (word_octets-octets v).len) ∙ ap (drop 25) e
+    ∙ drop_at (word_octets w) y 25 (word_octets-octets w).len in
     (sym (word_of-word_octets v lv) ∙ ap word_of front ∙ word_of-word_octets w lw, back)
 
 abbrev first_octet : List ℕ → ℕ
@@ -23,7 +26,8 @@ first_octet octets = get_or octets 0 0
 
 -- two bursts, after their type: the length octet says whether each has a number
 same_bursts : (m n : Option ℕ) (s t : ℕ) (v w : List Bool) (x y : List ℕ) → length v ≡ 196 → length w ≡ 196 →
-    body_length (has_numbers (version_by m)) kind.Tx ∷ (burst_octets m s (word_octets v) ++ x) ≡ body_length (has_numbers (version_by n)) kind.Tx ∷ (burst_octets n t (word_octets w) ++ y) → (m ≡ n) × (s ≡ t) × (v ≡ w) × (x ≡ y)
+    body_length (has_numbers (version_by m)) kind.Tx ∷ (burst_octets m s (word_octets v) ++ x) ≡ body_length
+    (has_numbers (version_by n)) kind.Tx ∷ (burst_octets n t (word_octets w) ++ y) → (m ≡ n) × (s ≡ t) × (v ≡ w) × (x ≡ y)
 same_bursts None None s t v w x y lv lw e =
     let es : s ≡ t = cc in
     let ew : word_octets v ++ x ≡ word_octets w ++ y = cc in
@@ -46,7 +50,8 @@ first octets = get_or octets 0 0
 abbrev third : List ℕ → ℕ
 third octets = get_or octets 2 0
 
-pub spelled_out_once : (f g : FrameOut) (x y : List ℕ) → IsFrameOut f → IsFrameOut g → spelling_out f ++ x ≡ spelling_out g ++ y → (f ≡ g) × (x ≡ y)
+pub spelled_out_once : (f g : FrameOut) (x y : List ℕ) → IsFrameOut f → IsFrameOut g → spelling_out f ++ x ≡ spelling_out g ++ y → (f ≡ g) ×
+    (x ≡ y)
 spelled_out_once (Welcome v) (Welcome w) x y hf hg e =
     let same : v ≡ w = ap third e in
     let rest : x ≡ y = cc in
@@ -56,8 +61,10 @@ spelled_out_once (Welcome v) Done x y hf hg e = absurd (omega (arith, ap first e
 spelled_out_once (Welcome v) (Refused r) x y hf hg e = absurd (omega (arith, ap first e))
 spelled_out_once (Tx number slot word) (Welcome v) x y hf hg e = absurd (omega (arith, ap first e))
 spelled_out_once (Tx number slot word) (Tx number' slot' word') x y hf hg e =
-    let behind : body_length (has_numbers (version_by number)) kind.Tx ∷ (burst_octets number slot (word_octets word) ++ x) ≡ body_length (has_numbers (version_by number')) kind.Tx ∷ (burst_octets number' slot' (word_octets word') ++ y) = cc in
-    let same : (number ≡ number') × (slot ≡ slot') × (word ≡ word') × (x ≡ y) = same_bursts number number' slot slot' word word' x y hf.2 hg.2 behind in
+    let behind : body_length (has_numbers (version_by number)) kind.Tx ∷ (burst_octets number slot (word_octets word) ++ x) ≡ body_length
+    (has_numbers (version_by number')) kind.Tx ∷ (burst_octets number' slot' (word_octets word') ++ y) = cc in
+    let same : (number ≡ number') × (slot ≡ slot') × (word ≡ word') × (x ≡ y) =
+    same_bursts number number' slot slot' word word' x y hf.2 hg.2 behind in
     ((λ i. Tx (same.0 i) (same.1 i) (same.2 i)), same.3)
 spelled_out_once (Tx number slot word) Done x y hf hg e = absurd (omega (arith, ap first e))
 spelled_out_once (Tx number slot word) (Refused r) x y hf hg e = absurd (omega (arith, ap first e))
@@ -78,7 +85,8 @@ pub burst-more : (number : Option ℕ) (slot : ℕ) (octets : List ℕ) → burs
 burst-more None slot octets = refl
 burst-more (Some n) slot octets = refl
 
-pub length-burst : (number : Option ℕ) (slot : ℕ) (word : List Bool) → length (burst_octets number slot (word_octets word)) ≡ body_length (has_numbers (version_by number)) kind.Tx
+pub length-burst : (number : Option ℕ) (slot : ℕ) (word : List Bool) → length (burst_octets number slot (word_octets word)) ≡ body_length
+    (has_numbers (version_by number)) kind.Tx
 length-burst None slot word = omega (arith, (word_octets-octets word).len)
 length-burst (Some n) slot word = omega (arith, (word_octets-octets word).len)
 

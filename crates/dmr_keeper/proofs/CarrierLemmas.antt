@@ -20,7 +20,8 @@ alone None = refl
 alone (Some y) = refl
 
 -- what numbers give, and one more
-pub given_more : {Y : Type 0} (h : ℕ → Option Y) (n : ℕ) → filter_map h (range_with_len 0 (n + 1)) ≡ filter_map h (range_with_len 0 n) ++ option_to_list (h n)
+pub given_more : {Y : Type 0} (h : ℕ → Option Y) (n : ℕ) → filter_map h (range_with_len 0 (n + 1)) ≡ filter_map h
+    (range_with_len 0 n) ++ option_to_list (h n)
 given_more {Y} h n =
     ap (filter_map h) (range_more n)
     ∙ filter_map-append h (range_with_len 0 n) (n ∷ [])

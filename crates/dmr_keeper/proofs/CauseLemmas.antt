@@ -20,7 +20,8 @@ use Rattle.dmr_core.specs.Words.{is_up, outbox}
 use Rattle.dmr_keeper.specs.Laws.{MayEndCalls, is_end}
 
 -- what a carrier is sent ends no call
-from_outbox : (plan : Settings) (facts : Facts) (slot : Slot) (pdus : List Pdu) → list_any is_end (acts_for_outbox plan facts slot pdus) ≡ false
+from_outbox : (plan : Settings) (facts : Facts) (slot : Slot) (pdus : List Pdu) →
+    list_any is_end (acts_for_outbox plan facts slot pdus) ≡ false
 from_outbox plan facts slot [] = either (is_control plan.lists slot)
   where
     either : (b : Bool) → list_any is_end (if b then Fill slot (next_fill plan facts) ∷ [] else []) ≡ false
@@ -39,11 +40,16 @@ neither false b p q = q
 polled : (plan : Settings) (facts : Facts) (carrier : ℕ) → list_any is_end (acts_of plan facts (Poll carrier)) ≡ false
 polled plan facts carrier = either (is_up facts carrier)
   where
-    both : (list_any is_end (acts_for_slot plan facts (record { carrier = carrier; slot = 0 })) || list_any is_end (acts_for_slot plan facts (record { carrier = carrier; slot = 1 }))) ≡ false
-    both = neither _ _ (to_slot plan facts (record { carrier = carrier; slot = 0 })) (to_slot plan facts (record { carrier = carrier; slot = 1 }))
+    both : (list_any is_end (acts_for_slot plan facts (record { carrier = carrier; slot = 0 })) || list_any is_end
+        (acts_for_slot plan facts (record { carrier = carrier; slot = 1 }))) ≡ false
+    both = neither _ _ (to_slot plan facts (record { carrier = carrier; slot = 0 }))
+        (to_slot plan facts (record { carrier = carrier; slot = 1 }))
 
-    either : (b : Bool) → list_any is_end (if b then acts_for_slot plan facts (record { carrier = carrier; slot = 0 }) ++ acts_for_slot plan facts (record { carrier = carrier; slot = 1 }) else []) ≡ false
-    either true = list_any-append is_end (acts_for_slot plan facts (record { carrier = carrier; slot = 0 })) (acts_for_slot plan facts (record { carrier = carrier; slot = 1 })) ∙ both
+    either : (b : Bool) → list_any is_end
+        (if b then acts_for_slot plan facts (record { carrier = carrier; slot = 0 }) ++ acts_for_slot plan facts
+        (record { carrier = carrier; slot = 1 }) else []) ≡ false
+    either true = list_any-append is_end (acts_for_slot plan facts (record { carrier = carrier; slot = 0 }))
+        (acts_for_slot plan facts (record { carrier = carrier; slot = 1 })) ∙ both
     either false = refl
 
 -- the last case is one for each of the other commands: it may end calls, or its answer has no such act

@@ -31,7 +31,8 @@ entries-append : (test : Act → Bool) (a b : List Entry) → entries_with test 
 entries-append test a b = sum_by-append (λ (e : Entry). cond (list_any test e.acts.list) 1 0) a b
 
 -- the counts of a carrier
-pub carrier-append : (a b : List Entry) (c : ℕ) → counts_of_carrier (a ++ b) c ≡ counts_of_both (counts_of_carrier a c) (counts_of_carrier b c)
+pub carrier-append : (a b : List Entry) (c : ℕ) → counts_of_carrier (a ++ b) c ≡ counts_of_both (counts_of_carrier a c)
+    (counts_of_carrier b c)
 carrier-append a b c =
     let polls = events-append (is_of_and c is_poll) a b in
     let heard = events-append (is_of_and c is_heard) a b in
@@ -41,47 +42,62 @@ carrier-append a b c =
 
 -- what entries say
 
-pub told-append : {X : Type 0} (says : ℕ → Entry → List X) (ticks : ℕ) (a b : List Entry) → told_along says ticks (a ++ b) ≡ told_along says ticks a ++ told_along says (ticks + ticks_in a) b
+pub told-append : {X : Type 0} (says : ℕ → Entry → List X) (ticks : ℕ) (a b : List Entry) →
+    told_along says ticks (a ++ b) ≡ told_along says ticks a ++ told_along says (ticks + ticks_in a) b
 told-append says ticks [] b = rw (add-zero ticks) refl
 told-append {X} says ticks (entry ∷ a) b =
     let tick = tick_at ticks entry.event in
-    ap (λ (xs : List X). says tick entry ++ xs) (told-append says tick a b ∙ ap (λ n. told_along says tick a ++ told_along says n b) (ticks-cons ticks entry a))
+    ap (λ (xs : List X). says tick entry ++ xs)
+    (told-append says tick a b ∙ ap (λ n. told_along says tick a ++ told_along says n b) (ticks-cons ticks entry a))
     ∙ sym (append_assoc (says tick entry) (told_along says tick a) (told_along says (ticks + ticks_in (entry ∷ a)) b))
 
 -- calls
 
-pub open-append : (plan : Settings) (ticks : ℕ) (lines : List OpenLine) (calls : List OpenCall) (a b : List Entry) → open_after plan ticks lines calls (a ++ b) ≡ open_after plan (ticks + ticks_in a) (lines_after plan ticks lines a) (open_after plan ticks lines calls a) b
+pub open-append : (plan : Settings) (ticks : ℕ) (lines : List OpenLine) (calls : List OpenCall) (a b : List Entry) →
+    open_after plan ticks lines calls (a ++ b) ≡ open_after plan (ticks + ticks_in a) (lines_after plan ticks lines a)
+    (open_after plan ticks lines calls a) b
 open-append plan ticks lines calls [] b = rw (add-zero ticks) refl
 open-append plan ticks lines calls (entry ∷ a) b =
     let tick = tick_at ticks entry.event in
     let left = lines_after_entry plan tick lines entry in
     let then = open_after_entry tick lines calls entry in
-    open-append plan tick left then a b ∙ ap (λ n. open_after plan n (lines_after plan tick left a) (open_after plan tick left then a) b) (ticks-cons ticks entry a)
+    open-append plan tick left then a b ∙ ap (λ n. open_after plan n (lines_after plan tick left a) (open_after plan tick left then a) b)
+    (ticks-cons ticks entry a)
 
-pub ended-append : (plan : Settings) (ticks : ℕ) (lines : List OpenLine) (calls : List OpenCall) (a b : List Entry) → ended_in plan ticks lines calls (a ++ b) ≡ ended_in plan ticks lines calls a ++ ended_in plan (ticks + ticks_in a) (lines_after plan ticks lines a) (open_after plan ticks lines calls a) b
+pub ended-append : (plan : Settings) (ticks : ℕ) (lines : List OpenLine) (calls : List OpenCall) (a b : List Entry) →
+    ended_in plan ticks lines calls (a ++ b) ≡ ended_in plan ticks lines calls a ++ ended_in plan (ticks + ticks_in a)
+    (lines_after plan ticks lines a) (open_after plan ticks lines calls a) b
 ended-append plan ticks lines calls [] b = rw (add-zero ticks) refl
 ended-append plan ticks lines calls (entry ∷ a) b =
     let tick = tick_at ticks entry.event in
     let left = lines_after_entry plan tick lines entry in
     let then = open_after_entry tick lines calls entry in
     let here = ended_in_entry plan.calls.hang tick lines calls entry in
-    ap (λ (xs : List EndedCall). here ++ xs) (ended-append plan tick left then a b ∙ ap (λ n. ended_in plan tick left then a ++ ended_in plan n (lines_after plan tick left a) (open_after plan tick left then a) b) (ticks-cons ticks entry a))
-    ∙ sym (append_assoc here (ended_in plan tick left then a) (ended_in plan (ticks + ticks_in (entry ∷ a)) (lines_after plan tick left a) (open_after plan tick left then a) b))
+    ap (λ (xs : List EndedCall). here ++ xs)
+    (ended-append plan tick left then a b ∙ ap
+    (λ n. ended_in plan tick left then a ++ ended_in plan n (lines_after plan tick left a) (open_after plan tick left then a) b)
+    (ticks-cons ticks entry a))
+    ∙ sym (append_assoc here (ended_in plan tick left then a)
+    (ended_in plan (ticks + ticks_in (entry ∷ a)) (lines_after plan tick left a) (open_after plan tick left then a) b))
 
 -- lines
 
-lines-append : (plan : Settings) (ticks : ℕ) (lines : List OpenLine) (a b : List Entry) → lines_after plan ticks lines (a ++ b) ≡ lines_after plan (ticks + ticks_in a) (lines_after plan ticks lines a) b
+lines-append : (plan : Settings) (ticks : ℕ) (lines : List OpenLine) (a b : List Entry) →
+    lines_after plan ticks lines (a ++ b) ≡ lines_after plan (ticks + ticks_in a) (lines_after plan ticks lines a) b
 lines-append plan ticks lines [] b = rw (add-zero ticks) refl
 lines-append plan ticks lines (entry ∷ a) b =
     let tick = tick_at ticks entry.event in
     let left = lines_after_entry plan tick lines entry in
     lines-append plan tick left a b ∙ ap (λ n. lines_after plan n (lines_after plan tick left a) b) (ticks-cons ticks entry a)
 
-most-first : (plan : Settings) (ticks : ℕ) (lines : List OpenLine) (journal : List Entry) → length lines ≤ most_waiting plan ticks lines journal
+most-first : (plan : Settings) (ticks : ℕ) (lines : List OpenLine) (journal : List Entry) →
+    length lines ≤ most_waiting plan ticks lines journal
 most-first plan ticks lines [] = omega arith
 most-first plan ticks lines (entry ∷ later) = omega arith
 
-most-append : (plan : Settings) (ticks : ℕ) (lines : List OpenLine) (a b : List Entry) → most_waiting plan ticks lines (a ++ b) ≡ max (most_waiting plan ticks lines a) (most_waiting plan (ticks + ticks_in a) (lines_after plan ticks lines a) b)
+most-append : (plan : Settings) (ticks : ℕ) (lines : List OpenLine) (a b : List Entry) →
+    most_waiting plan ticks lines (a ++ b) ≡ max (most_waiting plan ticks lines a)
+    (most_waiting plan (ticks + ticks_in a) (lines_after plan ticks lines a) b)
 most-append plan ticks lines [] b = rw (add-zero ticks) (omega (arith, most-first plan ticks lines b))
 most-append plan ticks lines (entry ∷ a) b =
     let tick = tick_at ticks entry.event in
@@ -92,7 +108,8 @@ most-append plan ticks lines (entry ∷ a) b =
 
 -- all together
 
-pub carried-append : (plan : Settings) (before : Carry) (a b : List Entry) → carried_after plan before (a ++ b) ≡ carried_after plan (carried_after plan before a) b
+pub carried-append : (plan : Settings) (before : Carry) (a b : List Entry) →
+    carried_after plan before (a ++ b) ≡ carried_after plan (carried_after plan before a) b
 carried-append plan before a b =
     let ticks : before.ticks + ticks_in (a ++ b) ≡ before.ticks + ticks_in a + ticks_in b = omega (arith, ticks-append a b) in
     let calls = open-append plan before.ticks before.lines before.calls a b in
@@ -100,7 +117,8 @@ carried-append plan before a b =
     let registered = fold-append registered_after_entry before.registered a b in
     λ i. record { ticks = ticks i; calls = calls i; lines = lines i; registered = registered i }
 
-pub counts-append : (plan : Settings) (before : Carry) (a b : List Entry) → counts_in plan before (a ++ b) ≡ counts_joined (counts_in plan before a) (counts_in plan (carried_after plan before a) b)
+pub counts-append : (plan : Settings) (before : Carry) (a b : List Entry) →
+    counts_in plan before (a ++ b) ≡ counts_joined (counts_in plan before a) (counts_in plan (carried_after plan before a) b)
 counts-append plan before a b =
     let first = ended_calls plan before a in
     let second = ended_calls plan (carried_after plan before a) b in
@@ -117,7 +135,8 @@ counts-append plan before a b =
     let registrations = entries-append is_joined a b in
     let refusals = entries-append is_refusing a b in
     let begun = entries-append is_begun a b in
-    let ended : length (ended_calls plan before (a ++ b)) ≡ length first + length second = ap length (ended-append plan before.ticks before.lines before.calls a b) ∙ length-append first second in
+    let ended : length (ended_calls plan before (a ++ b)) ≡ length first + length second =
+    ap length (ended-append plan before.ticks before.lines before.calls a b) ∙ length-append first second in
     let most = most-append plan before.ticks before.lines a b in
     λ i. record {
       entries = entries i;

@@ -38,20 +38,24 @@ newest_again terms later =
     ap (λ xs. drop m xs) (sym within) ∙ drop-drop m k (terms ++ later) ∙ ap (λ n. drop n (terms ++ later)) sum
 
 -- one more after those that wait, for which there is room
-pub added_within : (old new : List TimedRecords) (term : TimedRecords) → length old < 1000 → new ≡ old ++ term ∷ [] → new ≡ newest (old ++ term ∷ [])
+pub added_within : (old new : List TimedRecords) (term : TimedRecords) → length old < 1000 → new ≡ old ++ term ∷ [] →
+    new ≡ newest (old ++ term ∷ [])
 added_within old new term few is =
     let long = length-append old (term ∷ []) in
     is ∙ sym (newest_of_few (old ++ term ∷ []) (omega (arith, few, long)))
 
 -- one more instead of the oldest
-pub added_instead : (old rest new : List TimedRecords) (oldest term : TimedRecords) → old ≡ oldest ∷ rest → length old ≡ 1000 → new ≡ rest ++ term ∷ [] → new ≡ newest (old ++ term ∷ [])
+pub added_instead : (old rest new : List TimedRecords) (oldest term : TimedRecords) → old ≡ oldest ∷ rest → length old ≡ 1000 →
+    new ≡ rest ++ term ∷ [] → new ≡ newest (old ++ term ∷ [])
 added_instead old rest new oldest term begins full is =
     let shorter : length (oldest ∷ rest) ≡ 1000 = ap length (sym begins) ∙ full in
     let long = length-append rest (term ∷ []) in
-    is ∙ sym (newest_but_one oldest (rest ++ term ∷ []) (omega (arith, shorter, long))) ∙ ap (λ (terms : List TimedRecords). newest (terms ++ term ∷ [])) (sym begins)
+    is ∙ sym (newest_but_one oldest (rest ++ term ∷ []) (omega (arith, shorter, long)))
+    ∙ ap (λ (terms : List TimedRecords). newest (terms ++ term ∷ [])) (sym begins)
 
 -- the oldest of the later ones is moved
-pub moved_one : (all mine new later rest : List TimedRecords) (term : TimedRecords) → newest (mine ++ later) ≡ all → later ≡ term ∷ rest → new ≡ newest (mine ++ term ∷ []) → newest (new ++ rest) ≡ all
+pub moved_one : (all mine new later rest : List TimedRecords) (term : TimedRecords) → newest (mine ++ later) ≡ all → later ≡ term ∷ rest →
+    new ≡ newest (mine ++ term ∷ []) → newest (new ++ rest) ≡ all
 moved_one all mine new later rest term before begins is =
     let P : List TimedRecords → Type 0 = λ terms. newest (terms ++ rest) ≡ newest (mine ++ later) in
     let Q : List TimedRecords → Type 0 = λ terms. newest ((mine ++ term ∷ []) ++ rest) ≡ newest (mine ++ terms) in

@@ -24,13 +24,16 @@ use Rattle.dmr_link.specs.Sound.{IsServed, IsNewest}
 
 -- ---- a first frame
 
-served : (greatest : Version) (octet : ℕ) (found : Option Version) → octet < 256 → version_named greatest octet ≡ found → is_some found ≡ true → IsServed greatest (or_first found)
+served : (greatest : Version) (octet : ℕ) (found : Option Version) → octet < 256 → version_named greatest octet ≡ found →
+    is_some found ≡ true → IsServed greatest (or_first found)
 served greatest octet None lt at is = absurd (false≢true is)
 served greatest octet (Some version) lt at is = (octet, lt, at)
 
 -- a HELLO that is accepted chooses a version that is served
-pub accepted_served : (who : CarrierIdentity) (f : FrameIn) → IsFrame V1 f → is_accepted who f ≡ true → IsServed who.greatest (chosen_by who.greatest f)
-accepted_served who (frame.Hello version carrier lpcn) fits is = served who.greatest version (version_named who.greatest version) fits.0 refl (and_parts (is_some (version_named who.greatest version)) _ is).0
+pub accepted_served : (who : CarrierIdentity) (f : FrameIn) → IsFrame V1 f → is_accepted who f ≡ true →
+    IsServed who.greatest (chosen_by who.greatest f)
+accepted_served who (frame.Hello version carrier lpcn) fits is = served who.greatest version
+    (version_named who.greatest version) fits.0 refl (and_parts (is_some (version_named who.greatest version)) _ is).0
 accepted_served who (frame.Rx number slot word) fits is = absurd (false≢true is)
 accepted_served who frame.Poll fits is = absurd (false≢true is)
 accepted_served who (frame.Active slot) fits is = absurd (false≢true is)
@@ -93,7 +96,8 @@ numbered_newest version None is = tt
 numbered_newest version (Some n) is = is
 
 -- the number of the newest RX stays one of the version
-pub newest_stays : (version : Version) (newest : Option ℕ) (f : FrameIn) → IsNewest version newest → IsFrame version f → IsNewest version (newest_after newest f)
+pub newest_stays : (version : Version) (newest : Option ℕ) (f : FrameIn) → IsNewest version newest → IsFrame version f →
+    IsNewest version (newest_after newest f)
 newest_stays version newest (frame.Hello v carrier lpcn) is fits = is
 newest_stays version newest (frame.Rx number slot word) is fits = numbered_newest version number fits.0
 newest_stays version newest frame.Poll is fits = is

@@ -46,7 +46,8 @@ module _ (xs : List Happening) (stop : Ended) where
   stray : {P : Type 0} → stage_after_all Disordered xs ≡ stage_at stop → P
   stray at = absurd (not_disordered stop (sym (stays_disordered xs) ∙ at))
 
-  passed_outside : (x : Happening) → stage_after_all (stage_then Outside x) xs ≡ stage_at stop → IsPassed (stage_then Outside x) xs stop → IsPassed Outside (x ∷ xs) stop
+  passed_outside : (x : Happening) → stage_after_all (stage_then Outside x) xs ≡ stage_at stop → IsPassed (stage_then Outside x) xs stop →
+      IsPassed Outside (x ∷ xs) stop
   passed_outside (Answered Opened) at h = h
   passed_outside (Answered NotYet) at h = h
   passed_outside (Answered Finished) at h = h
@@ -66,25 +67,29 @@ module _ (xs : List Happening) (stop : Ended) where
   passed_outside (Passed Shut) at h = h
   passed_outside (Passed Left) at h = stray at
 
-  passed_within : (x : Happening) → stage_after_all (stage_then Within x) xs ≡ stage_at stop → IsPassed (stage_then Within x) xs stop → IsPassed Within (x ∷ xs) stop
+  passed_within : (x : Happening) → stage_after_all (stage_then Within x) xs ≡ stage_at stop → IsPassed (stage_then Within x) xs stop →
+      IsPassed Within (x ∷ xs) stop
   passed_within (Answered a) at h = stray at
   passed_within (Deposited d) at h = h d
   passed_within (Passed Entered) at h = stray at
   passed_within (Passed Shut) at h = stray at
   passed_within (Passed Left) at h = h
 
-  written : (b : Bool) → stage_after_all (cond b Answering Disordered) xs ≡ stage_at stop → IsPassed (cond b Answering Disordered) xs stop → IsPassed Answering xs stop
+  written : (b : Bool) → stage_after_all (cond b Answering Disordered) xs ≡ stage_at stop → IsPassed (cond b Answering Disordered) xs stop →
+      IsPassed Answering xs stop
   written true at h = h
   written false at h = stray at
 
-  passed_answering : (x : Happening) → stage_after_all (stage_then Answering x) xs ≡ stage_at stop → IsPassed (stage_then Answering x) xs stop → IsPassed Answering (x ∷ xs) stop
+  passed_answering : (x : Happening) → stage_after_all (stage_then Answering x) xs ≡ stage_at stop →
+      IsPassed (stage_then Answering x) xs stop → IsPassed Answering (x ∷ xs) stop
   passed_answering (Answered a) at h = written (is_read a == 0) at h
   passed_answering (Deposited d) at h = stray at
   passed_answering (Passed Entered) at h = stray at
   passed_answering (Passed Shut) at h = stray at
   passed_answering (Passed Left) at h = λ d. ap (λ (ps : List Passage). Entered ∷ Left ∷ ps) h
 
-  passed_step : (stage : Stage) (x : Happening) → stage_after_all (stage_then stage x) xs ≡ stage_at stop → IsPassed (stage_then stage x) xs stop → IsPassed stage (x ∷ xs) stop
+  passed_step : (stage : Stage) (x : Happening) → stage_after_all (stage_then stage x) xs ≡ stage_at stop →
+      IsPassed (stage_then stage x) xs stop → IsPassed stage (x ∷ xs) stop
   passed_step Outside x at h = passed_outside x at h
   passed_step Within x at h = passed_within x at h
   passed_step Answering x at h = passed_answering x at h
@@ -97,5 +102,6 @@ passed_from : (xs : List Happening) (stage : Stage) (stop : Ended) → stage_aft
 passed_from [] stage stop at = let P : Stage → Type 0 = λ s. IsPassed s [] stop in subst P (sym at) (passed_end stop)
 passed_from (x ∷ xs) stage stop at = passed_step xs stop stage x at (passed_from xs (stage_then stage x) stop at)
 
-pub gate_passed : (xs : List Happening) (stop : Ended) → stage_after_all Outside xs ≡ stage_at stop → passages_in xs ≡ passages_of (deposits_in xs) stop
+pub gate_passed : (xs : List Happening) (stop : Ended) → stage_after_all Outside xs ≡ stage_at stop →
+    passages_in xs ≡ passages_of (deposits_in xs) stop
 gate_passed xs stop at = passed_from xs Outside stop at

@@ -25,7 +25,14 @@ use Rattle.dmr_link.proofs.LinksAfterSteps.{by_going, session}
 
 -- the link with these octets unread
 abbrev pub with_unread : LinkState → List ℕ → LinkState
-with_unread l octets = record { who = l.who; connection = l.connection; pending = l.pending; is_cut = l.is_cut; unread = octets; closing = l.closing }
+with_unread l octets = record {
+  who = l.who;
+  connection = l.connection;
+  pending = l.pending;
+  is_cut = l.is_cut;
+  unread = octets;
+  closing = l.closing;
+}
 
 -- the notice, if it is for the peer alone, as a list
 abbrev peer_only : Option Notice → List Notice
@@ -68,9 +75,11 @@ next_nowhere who next (Some (Accepted c version)) = next_nothing who next
 next_nowhere who next (Some (Refused c r)) = next_alone who next (Refused c r)
 next_nowhere who next (Some (Rejected fault)) = next_alone who next (Rejected fault)
 
-module _ (l : LinkState) (xs : List ℕ) (it : Option Notice) (rest : List ℕ) (head : l.unread ≡ xs ++ rest) (brings : all_produce l.connection xs ≡ list_of_notice it) (quiet : IsQuiet l) where
+module _ (l : LinkState) (xs : List ℕ) (it : Option Notice) (rest : List ℕ) (head : l.unread ≡ xs ++ rest)
+    (brings : all_produce l.connection xs ≡ list_of_notice it) (quiet : IsQuiet l) where
   -- the notices that are done, and the one that is kept, after the piece
-  means_taken : (read : List ℕ) (done : List Notice) → (next : Option ℕ) → l.connection ≡ left_from l.who read next → l.pending.lost ≡ None → meaning_from l.who read false ≡ done ++ notices_waiting l →
+  means_taken : (read : List ℕ) (done : List Notice) → (next : Option ℕ) → l.connection ≡ left_from l.who read next →
+      l.pending.lost ≡ None → meaning_from l.who read false ≡ done ++ notices_waiting l →
       meaning_from l.who (read ++ xs) false ≡ (done ++ peer_only it) ++ kept_of (kept_then l.pending.kept it)
   means_taken read done next at lost means =
       meaning_more l.who read next xs
@@ -80,11 +89,13 @@ module _ (l : LinkState) (xs : List ℕ) (it : Option Notice) (rest : List ℕ) 
       ∙ (λ i. append-nil done i ++ (peer_only it ++ kept_of (kept_then (sym quiet.kept i) it)))
       ∙ sym (append_assoc done (peer_only it) (kept_of (kept_then l.pending.kept it)))
 
-  goes_on : (came taken text : List ℕ) (cut : Bool) (calls : List Deposit) (h : IsLeftBy l (session came taken Going cut calls)) → text ≡ text_to_peer l.who (h.done ++ peer_only it) calls →
+  goes_on : (came taken text : List ℕ) (cut : Bool) (calls : List Deposit) (h : IsLeftBy l (session came taken Going cut calls)) →
+      text ≡ text_to_peer l.who (h.done ++ peer_only it) calls →
       IsLeftBy (state_after l xs it rest) (session came text Going cut calls)
   goes_on came taken text cut calls h spoken =
       let k : Stream = l.connection in
-      let stays : IsClosed (left_from l.who h.read (next_onward l.who None h.done calls)) → ⊥ = let P : Stream → Type 0 = λ q. IsClosed q → ⊥ in subst P h.place.1 quiet.stays in
+      let stays : IsClosed (left_from l.who h.read (next_onward l.who None h.done calls)) → ⊥ = let P : Stream → Type 0 = λ q. IsClosed q →
+      ⊥ in subst P h.place.1 quiet.stays in
       record {
         read = h.read ++ xs;
         behind = rest;
@@ -101,7 +112,9 @@ module _ (l : LinkState) (xs : List ℕ) (it : Option Notice) (rest : List ℕ) 
           refl,
           ap (λ (q : Stream). left_after q xs) h.place.1
               ∙ sym (left_more l.who h.read (next_onward l.who None h.done calls) xs)
-              ∙ ap (left_from l.who (h.read ++ xs)) (sym (next_quiet l.who h.done (peer_only it) calls h.events ∙ next_nowhere l.who (next_onward l.who None h.done calls) it)),
+              ∙ ap (left_from l.who (h.read ++ xs))
+              (sym (next_quiet l.who h.done (peer_only it) calls h.events
+              ∙ next_nowhere l.who (next_onward l.who None h.done calls) it)),
           h.place.2,
           h.place.3,
         );
@@ -122,15 +135,18 @@ module _ (l : LinkState) (xs : List ℕ) (it : Option Notice) (rest : List ℕ) 
       goes_on came taken taken cut calls h
       (h.taken ∙ sym (append-nil (text_to_peer l.who h.done calls))
       ∙ ap (λ (t : List ℕ). text_to_peer l.who h.done calls ++ t)
-      (sym (ap (λ (n : Option Notice). text_onward l.who (next_onward l.who None h.done calls) (list_of_notice n) []) silent ∙ text_nothing l.who (next_onward l.who None h.done calls)))
+      (sym (ap (λ (n : Option Notice). text_onward l.who (next_onward l.who None h.done calls) (list_of_notice n) []) silent
+      ∙ text_nothing l.who (next_onward l.who None h.done calls)))
       ∙ sym (text_quiet l.who h.done (peer_only it) calls h.events))
 
   pub left_received : (s : Session) → peer_notice_of it ≡ None → IsLeftBy l s → IsLeftBy (state_after l xs it rest) s
-  left_received s silent h = by_going l quiet s (λ how. IsLeftBy (state_after l xs it rest) (session s.came s.taken how s.is_cut s.calls)) (quietly s.came s.taken s.is_cut s.calls silent) s.how h
+  left_received s silent h = by_going l quiet s (λ how. IsLeftBy (state_after l xs it rest) (session s.came s.taken how s.is_cut s.calls))
+      (quietly s.came s.taken s.is_cut s.calls silent) s.how h
 
   -- the piece produces a notice for the peer alone
   module _ (n : Notice) (notice : peer_notice_of it ≡ Some n) where
-    until : (read : List ℕ) (done : List Notice) → (next : Option ℕ) → l.connection ≡ left_from l.who read next → l.pending.lost ≡ None → meaning_from l.who read false ≡ done ++ notices_waiting l →
+    until : (read : List ℕ) (done : List Notice) → (next : Option ℕ) → l.connection ≡ left_from l.who read next → l.pending.lost ≡ None →
+        meaning_from l.who read false ≡ done ++ notices_waiting l →
         meaning_from l.who (read ++ xs) false ≡ done ++ n ∷ []
     until read done next at lost means =
         means_taken read done next at lost means
@@ -138,14 +154,18 @@ module _ (l : LinkState) (xs : List ℕ) (it : Option Notice) (rest : List ℕ) 
         ∙ ap (λ (p : Option SiteNotice). (done ++ n ∷ []) ++ kept_of p) (kept_none it n notice)
         ∙ append-nil (done ++ n ∷ [])
 
-    spelled : (read : List ℕ) (done : List Notice) (calls : List Deposit) → (next : Option ℕ) → l.connection ≡ left_from l.who read next → l.pending.lost ≡ None → meaning_from l.who read false ≡ done ++ notices_waiting l → events_in done ≡ events_of calls →
+    spelled : (read : List ℕ) (done : List Notice) (calls : List Deposit) → (next : Option ℕ) → l.connection ≡ left_from l.who read next →
+        l.pending.lost ≡ None → meaning_from l.who read false ≡ done ++ notices_waiting l → events_in done ≡ events_of calls →
         text_to_peer l.who (done ++ n ∷ []) calls ≡ text_to_peer l.who done calls ++ peer_notice_text n
     spelled read done calls next at lost means events =
         text_quiet l.who done (n ∷ []) calls events
-        ∙ ap (λ (t : List ℕ). text_to_peer l.who done calls ++ t) (text_alone l.who (next_onward l.who None done calls) n (next_of l.who (read ++ xs) done [] n (until read done next at lost means)))
+        ∙ ap (λ (t : List ℕ). text_to_peer l.who done calls ++ t)
+        (text_alone l.who (next_onward l.who None done calls) n
+        (next_of l.who (read ++ xs) done [] n (until read done next at lost means)))
 
     reported_all : (came taken : List ℕ) (cut : Bool) (calls : List Deposit) →
-        IsLeftBy l (session came taken Going cut calls) → IsLeftBy (state_after l xs it rest) (session came (taken ++ peer_notice_text n) Going cut calls)
+        IsLeftBy l (session came taken Going cut calls) → IsLeftBy (state_after l xs it rest)
+        (session came (taken ++ peer_notice_text n) Going cut calls)
     reported_all came taken cut calls h =
         goes_on came taken (taken ++ peer_notice_text n) cut calls h
         (ap (λ (t : List ℕ). t ++ peer_notice_text n) h.taken
@@ -153,18 +173,24 @@ module _ (l : LinkState) (xs : List ℕ) (it : Option Notice) (rest : List ℕ) 
         ∙ ap (λ (p : Option Notice). text_to_peer l.who (h.done ++ list_of_notice p) calls) (sym notice))
 
     pub left_reported : (s : Session) → IsLeftBy l s → IsLeftBy (state_after l xs it rest) (with_taken s (peer_notice_text n))
-    left_reported s h = by_going l quiet s (λ how. IsLeftBy (state_after l xs it rest) (session s.came (s.taken ++ peer_notice_text n) how s.is_cut s.calls)) (reported_all s.came s.taken s.is_cut s.calls) s.how h
+    left_reported s h = by_going l quiet s
+        (λ how. IsLeftBy (state_after l xs it rest) (session s.came (s.taken ++ peer_notice_text n) how s.is_cut s.calls))
+        (reported_all s.came s.taken s.is_cut s.calls) s.how h
 
     module _ (part : List ℕ) (octet : ℕ) (missing : List ℕ) (short : part ++ octet ∷ missing ≡ peer_notice_text n) where
       reported_part : (came taken : List ℕ) (cut : Bool) (calls : List Deposit) →
-          IsLeftBy l (session came taken Going cut calls) → IsLeftBy (closed_as (state_after l xs it rest) closing.WriteFailed) (session came (taken ++ part) WriteFaulty cut calls)
+          IsLeftBy l (session came taken Going cut calls) → IsLeftBy (closed_as (state_after l xs it rest) closing.WriteFailed)
+          (session came (taken ++ part) WriteFaulty cut calls)
       reported_part came taken cut calls h =
           let k : Stream = l.connection in
           let means : meaning_from l.who (h.read ++ xs) false ≡ h.done ++ n ∷ [] = until h.read h.done _ h.place.1 h.place.2 h.means in
-          let at : left_from l.who (h.read ++ xs) (next_onward l.who None h.done calls) ≡ left_after k xs = left_more l.who h.read (next_onward l.who None h.done calls) xs ∙ ap (λ (q : Stream). left_after q xs) (sym h.place.1) in
-          let none : kept_then l.pending.kept it ≡ None = ap (λ (p : Option SiteNotice). kept_then p it) quiet.kept ∙ kept_none it n notice in
+          let at : left_from l.who (h.read ++ xs) (next_onward l.who None h.done calls) ≡ left_after k xs =
+          left_more l.who h.read (next_onward l.who None h.done calls) xs ∙ ap (λ (q : Stream). left_after q xs) (sym h.place.1) in
+          let none : kept_then l.pending.kept it ≡ None =
+          ap (λ (p : Option SiteNotice). kept_then p it) quiet.kept ∙ kept_none it n notice in
           let events : events_in (h.done ++ n ∷ []) ≡ events_of calls =
-          filter_map-append event_in h.done (n ∷ []) ∙ (λ i. h.events i ++ events_in (list_of_notice (sym notice i))) ∙ ap (λ (es : List Event). events_of calls ++ es) (peer_only_none it) ∙ append-nil (events_of calls) in
+          filter_map-append event_in h.done (n ∷ []) ∙ (λ i. h.events i ++ events_in (list_of_notice (sym notice i)))
+          ∙ ap (λ (es : List Event). events_of calls ++ es) (peer_only_none it) ∙ append-nil (events_of calls) in
           record {
             read = h.read ++ xs;
             behind = rest;
@@ -199,8 +225,12 @@ module _ (l : LinkState) (xs : List ℕ) (it : Option Notice) (rest : List ℕ) 
             why = λ e. ap (λ (b : Bool). closed_by l.who WriteFaulty b (h.read ++ xs)) (sym h.cut ∙ h.place.3);
           }
 
-      pub left_reported_part : (s : Session) → IsLeftBy l s → IsLeftBy (closed_as (state_after l xs it rest) closing.WriteFailed) (with_how (with_taken s part) WriteFaulty)
-      left_reported_part s h = by_going l quiet s (λ how. IsLeftBy (closed_as (state_after l xs it rest) closing.WriteFailed) (session s.came (s.taken ++ part) (how_then how WriteFaulty) s.is_cut s.calls)) (reported_part s.came s.taken s.is_cut s.calls) s.how h
+      pub left_reported_part : (s : Session) → IsLeftBy l s → IsLeftBy (closed_as (state_after l xs it rest) closing.WriteFailed)
+          (with_how (with_taken s part) WriteFaulty)
+      left_reported_part s h = by_going l quiet s
+          (λ how. IsLeftBy (closed_as (state_after l xs it rest) closing.WriteFailed)
+          (session s.came (s.taken ++ part) (how_then how WriteFaulty) s.is_cut s.calls))
+          (reported_part s.came s.taken s.is_cut s.calls) s.how h
 
 -- ---- a read
 
@@ -226,9 +256,11 @@ module _ (l : LinkState) (xs : List ℕ) (none : l.unread ≡ []) (quiet : IsQui
       }
 
   pub left_came : (s : Session) → IsLeftBy l s → IsLeftBy (with_unread l xs) (with_came s xs)
-  left_came s h = by_going l quiet s (λ how. IsLeftBy (with_unread l xs) (session (s.came ++ xs) s.taken how s.is_cut s.calls)) (came_on s.came s.taken s.is_cut s.calls) s.how h
+  left_came s h = by_going l quiet s (λ how. IsLeftBy (with_unread l xs) (session (s.came ++ xs) s.taken how s.is_cut s.calls))
+      (came_on s.came s.taken s.is_cut s.calls) s.how h
 
-  means_ended : (read : List ℕ) (done : List Notice) → (next : Option ℕ) → l.connection ≡ left_from l.who read next → l.pending.lost ≡ None → meaning_from l.who read false ≡ done ++ notices_waiting l →
+  means_ended : (read : List ℕ) (done : List Notice) → (next : Option ℕ) → l.connection ≡ left_from l.who read next →
+      l.pending.lost ≡ None → meaning_from l.who read false ≡ done ++ notices_waiting l →
       meaning_from l.who read true ≡ done ++ (kept_of l.pending.kept ++ lost_of (up_of l.connection))
   means_ended read done next at lost means =
       meaning_end l.who read next
@@ -237,7 +269,8 @@ module _ (l : LinkState) (xs : List ℕ) (none : l.unread ≡ []) (quiet : IsQui
       ∙ (λ i. append-nil done i ++ (kept_of (sym quiet.kept i) ++ lost_of (up_of l.connection)))
 
   input_over : (came taken : List ℕ) (cut : Bool) (calls : List Deposit) →
-      IsLeftBy l (session came taken Going cut calls) → IsLeftBy (closed_as (with_unread l xs) closing.Over) (session came taken InputOver cut calls)
+      IsLeftBy l (session came taken Going cut calls) → IsLeftBy (closed_as (with_unread l xs) closing.Over)
+      (session came taken InputOver cut calls)
   input_over came taken cut calls h = record {
     read = h.read;
     behind = [];
@@ -252,10 +285,13 @@ module _ (l : LinkState) (xs : List ℕ) (none : l.unread ≡ []) (quiet : IsQui
   }
 
   pub left_input_over : (s : Session) → IsLeftBy l s → IsLeftBy (closed_as (with_unread l xs) closing.Over) (with_how s InputOver)
-  left_input_over s h = by_going l quiet s (λ how. IsLeftBy (closed_as (with_unread l xs) closing.Over) (session s.came s.taken (how_then how InputOver) s.is_cut s.calls)) (input_over s.came s.taken s.is_cut s.calls) s.how h
+  left_input_over s h = by_going l quiet s
+      (λ how. IsLeftBy (closed_as (with_unread l xs) closing.Over) (session s.came s.taken (how_then how InputOver) s.is_cut s.calls))
+      (input_over s.came s.taken s.is_cut s.calls) s.how h
 
   read_failed : (came taken : List ℕ) (cut : Bool) (calls : List Deposit) →
-      IsLeftBy l (session came taken Going cut calls) → IsLeftBy (closed_as (with_unread l xs) closing.ReadFailed) (session came taken ReadFaulty cut calls)
+      IsLeftBy l (session came taken Going cut calls) → IsLeftBy (closed_as (with_unread l xs) closing.ReadFailed)
+      (session came taken ReadFaulty cut calls)
   read_failed came taken cut calls h = record {
     read = h.read;
     behind = [];
@@ -270,4 +306,6 @@ module _ (l : LinkState) (xs : List ℕ) (none : l.unread ≡ []) (quiet : IsQui
   }
 
   pub left_read_failed : (s : Session) → IsLeftBy l s → IsLeftBy (closed_as (with_unread l xs) closing.ReadFailed) (with_how s ReadFaulty)
-  left_read_failed s h = by_going l quiet s (λ how. IsLeftBy (closed_as (with_unread l xs) closing.ReadFailed) (session s.came s.taken (how_then how ReadFaulty) s.is_cut s.calls)) (read_failed s.came s.taken s.is_cut s.calls) s.how h
+  left_read_failed s h = by_going l quiet s
+      (λ how. IsLeftBy (closed_as (with_unread l xs) closing.ReadFailed)
+      (session s.came s.taken (how_then how ReadFaulty) s.is_cut s.calls)) (read_failed s.came s.taken s.is_cut s.calls) s.how h

@@ -42,7 +42,8 @@ abbrev pub replied : LinkState → SiteNotice → Acts → LinkState
 replied l e acts = with_next (unkept l) (next_after_answer (numbering_of l.connection) e acts)
 
 -- the notice that was kept is done
-means_kept : (l : LinkState) (e : SiteNotice) (ns done : List Notice) → l.pending.kept ≡ Some e → ns ≡ done ++ notices_waiting l → ns ≡ (done ++ site_notice e ∷ []) ++ notices_waiting (unkept l)
+means_kept : (l : LinkState) (e : SiteNotice) (ns done : List Notice) → l.pending.kept ≡ Some e → ns ≡ done ++ notices_waiting l →
+    ns ≡ (done ++ site_notice e ∷ []) ++ notices_waiting (unkept l)
 means_kept l e ns done kept means =
     means
     ∙ ap (λ (k : Option SiteNotice). done ++ (kept_of k ++ lost_of l.pending.lost)) kept
@@ -83,11 +84,13 @@ left_kept l e kept is s h =
 -- ---- the number of the next TX
 
 -- while a connection goes on, the number is the one that follows from its text
-number_here : (who : Peer) (read : List ℕ) (done : List Notice) (calls : List Deposit) → numbering_of (left_from who read (next_onward who None done calls)) ≡ next_onward who None done calls
+number_here : (who : Peer) (read : List ℕ) (done : List Notice) (calls : List Deposit) →
+    numbering_of (left_from who read (next_onward who None done calls)) ≡ next_onward who None done calls
 number_here (Carrier who) read done calls = refl
 number_here Operator read done calls = refl
 
-renumbered : (who : Peer) (read : List ℕ) (old next new : Option ℕ) → next ≡ new → numbered (left_from who read old) next ≡ left_from who read new
+renumbered : (who : Peer) (read : List ℕ) (old next new : Option ℕ) → next ≡ new →
+    numbered (left_from who read old) next ≡ left_from who read new
 renumbered (Carrier who) read old next new is = ap (λ (n : Option ℕ). stream.Frames (state_on who (left_by_octets who read) n)) is
 renumbered Operator read old next new is = refl
 
@@ -102,7 +105,9 @@ module _ (l : LinkState) (e : SiteNotice) (acts : Acts) (kept : l.pending.kept �
   abbrev next : Option ℕ
   next = next_after_answer (numbering_of l.connection) e acts
 
-  numbers : (read : List ℕ) (done : List Notice) (calls : List Deposit) → l.connection ≡ left_from l.who read (next_onward l.who None done calls) → numbering_of l.connection ≡ next_onward l.who None done calls
+  numbers : (read : List ℕ) (done : List Notice) (calls : List Deposit) →
+      l.connection ≡ left_from l.who read (next_onward l.who None done calls) →
+      numbering_of l.connection ≡ next_onward l.who None done calls
   numbers read done calls at = ap (λ (q : Stream). numbering_of q) at ∙ number_here l.who read done calls
 
   -- the text of the answer, after the notices that are done
@@ -111,7 +116,8 @@ module _ (l : LinkState) (e : SiteNotice) (acts : Acts) (kept : l.pending.kept �
 
   -- the connection was cut, and no answer is written
   muted : (came taken : List ℕ) (how : How) (cut : Bool) (calls : List Deposit) → l.is_cut ≡ true →
-      IsLeftBy l (session came taken how cut calls) → IsLeftBy (unkept l) (session came taken how cut (calls ++ deposit (event_of_notice e) acts ∷ []))
+      IsLeftBy l (session came taken how cut calls) → IsLeftBy (unkept l)
+      (session came taken how cut (calls ++ deposit (event_of_notice e) acts ∷ []))
   muted came taken Going cut calls is h = let e1 = h.place.3 in absurd (cc (e1, is))
   muted came taken InputOver cut calls is h = let e1 = h.place.2 in absurd (cc (e1, kept))
   muted came taken ReadFaulty cut calls is h = let e1 = h.place.2 in absurd (cc (e1, kept))
@@ -135,16 +141,19 @@ module _ (l : LinkState) (e : SiteNotice) (acts : Acts) (kept : l.pending.kept �
     why = h.why;
   }
 
-  pub left_muted : (s : Session) → l.is_cut ≡ true → IsLeftBy l s → IsLeftBy (unkept l) (with_calls s (deposit (event_of_notice e) acts ∷ []))
+  pub left_muted : (s : Session) → l.is_cut ≡ true → IsLeftBy l s → IsLeftBy (unkept l)
+      (with_calls s (deposit (event_of_notice e) acts ∷ []))
   left_muted s is h = muted s.came s.taken s.how s.is_cut s.calls is h
 
   kept_own : (read : List ℕ) (done : List Notice) → meaning_from l.who read false ≡ done ++ notices_waiting l → IsOwn l.who (site_notice e)
   kept_own read done means =
-      next_of l.who read done (lost_of l.pending.lost) (site_notice e) (means ∙ ap (λ (k : Option SiteNotice). done ++ (kept_of k ++ lost_of l.pending.lost)) kept)
+      next_of l.who read done (lost_of l.pending.lost) (site_notice e)
+      (means ∙ ap (λ (k : Option SiteNotice). done ++ (kept_of k ++ lost_of l.pending.lost)) kept)
 
   -- the answer is written
   answered : (came taken : List ℕ) (cut : Bool) (calls : List Deposit) → IsLeftBy l (session came taken Going cut calls) →
-      IsLeftBy (replied l e acts) (session came (taken ++ answer_text (numbering_of l.connection) e acts) Going cut (calls ++ deposit (event_of_notice e) acts ∷ []))
+      IsLeftBy (replied l e acts) (session came (taken ++ answer_text (numbering_of l.connection) e acts) Going cut
+      (calls ++ deposit (event_of_notice e) acts ∷ []))
   answered came taken cut calls h = record {
     read = h.read;
     behind = h.behind;
@@ -158,7 +167,8 @@ module _ (l : LinkState) (e : SiteNotice) (acts : Acts) (kept : l.pending.kept �
     place = (
       h.place.0,
       ap (λ (q : Stream). numbered q next) h.place.1
-          ∙ renumbered l.who h.read (next_onward l.who None h.done calls) next (next_onward l.who None (h.done ++ site_notice e ∷ []) (calls ++ deposit (event_of_notice e) acts ∷ []))
+          ∙ renumbered l.who h.read (next_onward l.who None h.done calls) next
+          (next_onward l.who None (h.done ++ site_notice e ∷ []) (calls ++ deposit (event_of_notice e) acts ∷ []))
           (ap (λ (n : Option ℕ). next_after_answer n e acts) (numbers h.read h.done calls h.place.1)
           ∙ sym (next_event l.who h.done calls e acts h.events (kept_own h.read h.done h.means))),
       h.place.2,
@@ -168,63 +178,76 @@ module _ (l : LinkState) (e : SiteNotice) (acts : Acts) (kept : l.pending.kept �
     why = λ at. h.why (sym (going_numbered l.connection next) ∙ at);
   }
 
-  pub left_answered : (s : Session) → l.is_cut ≡ false → IsLeftBy l s → IsLeftBy (replied l e acts) (with_taken (with_calls s (deposit (event_of_notice e) acts ∷ [])) (answer_text (numbering_of l.connection) e acts))
+  pub left_answered : (s : Session) → l.is_cut ≡ false → IsLeftBy l s →
+      IsLeftBy (replied l e acts) (with_taken (with_calls s (deposit (event_of_notice e) acts ∷ []))
+      (answer_text (numbering_of l.connection) e acts))
   left_answered s is h =
-      by_kept l e kept is s (λ how. IsLeftBy (replied l e acts) (session s.came (s.taken ++ answer_text (numbering_of l.connection) e acts) how s.is_cut (s.calls ++ deposit (event_of_notice e) acts ∷ [])))
+      by_kept l e kept is s (λ how. IsLeftBy (replied l e acts)
+      (session s.came (s.taken ++ answer_text (numbering_of l.connection) e acts) how s.is_cut
+      (s.calls ++ deposit (event_of_notice e) acts ∷ [])))
       (answered s.came s.taken s.is_cut s.calls) s.how h
 
   -- the write of the answer fails
-  module _ (part : List ℕ) (octet : ℕ) (missing : List ℕ) (short : part ++ octet ∷ missing ≡ answer_text (numbering_of l.connection) e acts) where
-    broken : (came taken : List ℕ) (cut : Bool) (calls : List Deposit) → l.is_cut ≡ false → IsLeftBy l (session came taken Going cut calls) →
-        IsLeftBy (closed_as (unkept l) closing.WriteFailed) (session came (taken ++ part) WriteFaulty cut (calls ++ deposit (event_of_notice e) acts ∷ []))
-    broken came taken cut calls is h =
-        let until : meaning_from l.who h.read false ≡ h.done ++ site_notice e ∷ [] =
-        h.means ∙ (λ i. h.done ++ (kept_of (kept i) ++ lost_of (h.place.2 i))) in
-        let events : events_in (h.done ++ site_notice e ∷ []) ≡ events_of (calls ++ deposit (event_of_notice e) acts ∷ []) = events_more h.done calls e acts h.events in
-        let uncut : cut ≡ false = sym h.cut ∙ is in
-        record {
-          read = h.read;
-          behind = h.behind;
-          done = h.done ++ site_notice e ∷ [];
-          came = h.came;
-          means =
-              meaning_end l.who h.read (next_onward l.who None h.done calls)
-              ∙ (λ i. until i ++ lost_of (up_of (sym h.place.1 i)));
-          events = events;
-          taken = record {
-            before = h.done;
-            last = site_notice e;
-            more = [];
-            first = calls ++ deposit (event_of_notice e) acts ∷ [];
-            later = [];
-            part = part;
-            octet = octet;
-            missing = missing;
-            means = until;
-            reached = sym (append-nil (h.done ++ site_notice e ∷ []));
-            split = sym (append-nil (calls ++ deposit (event_of_notice e) acts ∷ []));
+  module _ (part : List ℕ) (octet : ℕ) (missing : List ℕ) (short : part ++ octet ∷ missing ≡ answer_text (numbering_of l.connection) e acts)
+    where
+      broken : (came taken : List ℕ) (cut : Bool) (calls : List Deposit) → l.is_cut ≡ false →
+          IsLeftBy l (session came taken Going cut calls) →
+          IsLeftBy (closed_as (unkept l) closing.WriteFailed)
+          (session came (taken ++ part) WriteFaulty cut (calls ++ deposit (event_of_notice e) acts ∷ []))
+      broken came taken cut calls is h =
+          let until : meaning_from l.who h.read false ≡ h.done ++ site_notice e ∷ [] =
+          h.means ∙ (λ i. h.done ++ (kept_of (kept i) ++ lost_of (h.place.2 i))) in
+          let events : events_in (h.done ++ site_notice e ∷ []) ≡ events_of (calls ++ deposit (event_of_notice e) acts ∷ []) =
+          events_more h.done calls e acts h.events in
+          let uncut : cut ≡ false = sym h.cut ∙ is in
+          record {
+            read = h.read;
+            behind = h.behind;
+            done = h.done ++ site_notice e ∷ [];
+            came = h.came;
+            means =
+                meaning_end l.who h.read (next_onward l.who None h.done calls)
+                ∙ (λ i. until i ++ lost_of (up_of (sym h.place.1 i)));
             events = events;
-            whole = ap (λ (t : List ℕ). t ++ part) (h.taken ∙ sym (text_extra l.who h.done calls (deposit (event_of_notice e) acts ∷ []) h.events));
-            short =
-                append_assoc taken part (octet ∷ missing)
-                ∙ (λ i. h.taken i ++ short i)
-                ∙ ap (λ (n : Option ℕ). text_to_peer l.who h.done calls ++ answer_text n e acts) (numbers h.read h.done calls h.place.1)
-                ∙ sym (text_event l.who h.done calls e acts h.events (kept_own h.read h.done h.means));
-          };
-          place = (refl, refl);
-          cut = h.cut;
-          why = λ at. ap (λ (b : Bool). closed_by l.who WriteFaulty b h.read) uncut;
-        }
+            taken = record {
+              before = h.done;
+              last = site_notice e;
+              more = [];
+              first = calls ++ deposit (event_of_notice e) acts ∷ [];
+              later = [];
+              part = part;
+              octet = octet;
+              missing = missing;
+              means = until;
+              reached = sym (append-nil (h.done ++ site_notice e ∷ []));
+              split = sym (append-nil (calls ++ deposit (event_of_notice e) acts ∷ []));
+              events = events;
+              whole = ap (λ (t : List ℕ). t ++ part)
+                  (h.taken ∙ sym (text_extra l.who h.done calls (deposit (event_of_notice e) acts ∷ []) h.events));
+              short =
+                  append_assoc taken part (octet ∷ missing)
+                  ∙ (λ i. h.taken i ++ short i)
+                  ∙ ap (λ (n : Option ℕ). text_to_peer l.who h.done calls ++ answer_text n e acts) (numbers h.read h.done calls h.place.1)
+                  ∙ sym (text_event l.who h.done calls e acts h.events (kept_own h.read h.done h.means));
+            };
+            place = (refl, refl);
+            cut = h.cut;
+            why = λ at. ap (λ (b : Bool). closed_by l.who WriteFaulty b h.read) uncut;
+          }
 
-    pub left_broken : (s : Session) → l.is_cut ≡ false → IsLeftBy l s → IsLeftBy (closed_as (unkept l) closing.WriteFailed) (with_how (with_taken (with_calls s (deposit (event_of_notice e) acts ∷ [])) part) WriteFaulty)
-    left_broken s is h =
-        by_kept l e kept is s (λ how. IsLeftBy (closed_as (unkept l) closing.WriteFailed) (session s.came (s.taken ++ part) (how_then how WriteFaulty) s.is_cut (s.calls ++ deposit (event_of_notice e) acts ∷ [])))
-        (broken s.came s.taken s.is_cut s.calls is) s.how h
+      pub left_broken : (s : Session) → l.is_cut ≡ false → IsLeftBy l s →
+          IsLeftBy (closed_as (unkept l) closing.WriteFailed)
+          (with_how (with_taken (with_calls s (deposit (event_of_notice e) acts ∷ [])) part) WriteFaulty)
+      left_broken s is h =
+          by_kept l e kept is s (λ how. IsLeftBy (closed_as (unkept l) closing.WriteFailed)
+          (session s.came (s.taken ++ part) (how_then how WriteFaulty) s.is_cut (s.calls ++ deposit (event_of_notice e) acts ∷ [])))
+          (broken s.came s.taken s.is_cut s.calls is) s.how h
 
 -- ---- the Lost that must follow an Up is handed in
 
 module _ (l : LinkState) (c : ℕ) (acts : Acts) (lost : l.pending.lost ≡ Some c) (none : l.pending.kept ≡ None) where
-  means_lost : (ns done : List Notice) → ns ≡ done ++ notices_waiting l → ns ≡ (done ++ Happened (Lost c) ∷ []) ++ notices_waiting (unlost l)
+  means_lost : (ns done : List Notice) → ns ≡ done ++ notices_waiting l →
+      ns ≡ (done ++ Happened (Lost c) ∷ []) ++ notices_waiting (unlost l)
   means_lost ns done means =
       means
       ∙ (λ i. done ++ (kept_of (none i) ++ lost_of (lost i)))

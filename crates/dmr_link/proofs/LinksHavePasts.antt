@@ -49,31 +49,38 @@ deposited_cond : (d : Deposit) (a b : Progress) (t : Bool) → cond t (deposited
 deposited_cond d a b true = refl
 deposited_cond d a b false = refl
 
-deposited_took : (d : Deposit) (h : Progress) (octets : List ℕ) → progress_after_answer (deposited d h) (Took octets) ≡ deposited d (progress_after_answer h (Took octets))
+deposited_took : (d : Deposit) (h : Progress) (octets : List ℕ) → progress_after_answer (deposited d h) (Took octets) ≡ deposited d
+    (progress_after_answer h (Took octets))
 deposited_took d h [] = refl
 deposited_took d h (x ∷ octets) = refl
 
-deposited_progress : (d : Deposit) (h : Progress) (a : Answer) → progress_after_answer (deposited d h) a ≡ deposited d (progress_after_answer h a)
+deposited_progress : (d : Deposit) (h : Progress) (a : Answer) → progress_after_answer (deposited d h) a ≡ deposited d
+    (progress_after_answer h a)
 deposited_progress d h Opened = refl
 deposited_progress d h NotYet = refl
 deposited_progress d h Finished = refl
 deposited_progress d h (Came octets) = refl
 deposited_progress d h InputEnded = refl
-deposited_progress d h ReadInterrupted = deposited_cond d (progress_at h.session (h.row + 1)) (progress_at (with_how h.session ReadFaulty) 0) (nat_lt h.row 16)
+deposited_progress d h ReadInterrupted =
+    deposited_cond d (progress_at h.session (h.row + 1)) (progress_at (with_how h.session ReadFaulty) 0) (nat_lt h.row 16)
 deposited_progress d h ReadBlocked = refl
 deposited_progress d h ReadFailed = refl
 deposited_progress d h (Took octets) = deposited_took d h octets
-deposited_progress d h WriteInterrupted = deposited_cond d (in_writing h.session (h.writing + 1)) (progress_at (with_how h.session WriteFaulty) 0) (nat_lt h.writing 16)
+deposited_progress d h WriteInterrupted =
+    deposited_cond d (in_writing h.session (h.writing + 1)) (progress_at (with_how h.session WriteFaulty) 0) (nat_lt h.writing 16)
 deposited_progress d h WriteBlocked = refl
 deposited_progress d h WriteFailed = refl
 deposited_progress d h Again = refl
 deposited_progress d h Silent = refl
 
-deposited_all : (d : Deposit) (h : Progress) (answers : List Answer) → progress_after_answers (deposited d h) answers ≡ deposited d (progress_after_answers h answers)
+deposited_all : (d : Deposit) (h : Progress) (answers : List Answer) → progress_after_answers (deposited d h) answers ≡ deposited d
+    (progress_after_answers h answers)
 deposited_all d h [] = refl
-deposited_all d h (a ∷ answers) = ap (λ (k : Progress). progress_after_answers k answers) (deposited_progress d h a) ∙ deposited_all d (progress_after_answer h a) answers
+deposited_all d h (a ∷ answers) =
+    ap (λ (k : Progress). progress_after_answers k answers) (deposited_progress d h a) ∙ deposited_all d (progress_after_answer h a) answers
 
-split_happened : (h : Progress) (xs : List Happening) → (progress_after_all h xs).session ≡ with_calls (progress_after_answers h (answers_in xs)).session (deposits_in xs)
+split_happened : (h : Progress) (xs : List Happening) → (progress_after_all h xs).session ≡ with_calls
+    (progress_after_answers h (answers_in xs)).session (deposits_in xs)
 split_happened h [] = sym (calls_nil h.session)
 split_happened h (Answered a ∷ xs) = split_happened (progress_after_answer h a) xs
 split_happened h (Passed p ∷ xs) = split_happened h xs
@@ -82,7 +89,8 @@ split_happened h (Deposited d ∷ xs) =
     ∙ ap (λ (k : Progress). with_calls k.session (deposits_in xs)) (deposited_all d h (answers_in xs))
     ∙ calls_more (progress_after_answers h (answers_in xs)).session (d ∷ []) (deposits_in xs)
 
-split_writing : (h : Progress) (xs : List Happening) → (progress_after_all h xs).writing ≡ (progress_after_answers h (answers_in xs)).writing
+split_writing : (h : Progress) (xs : List Happening) → (progress_after_all h xs).writing ≡
+    (progress_after_answers h (answers_in xs)).writing
 split_writing h [] = refl
 split_writing h (Answered a ∷ xs) = split_writing (progress_after_answer h a) xs
 split_writing h (Passed p ∷ xs) = split_writing h xs
@@ -144,7 +152,8 @@ still_serves l x dead = record {
   ends = ends_over l l.closing refl (dead_over l dead);
 }
 
-ends_as : (stop : Ended) (l : LinkState) (xs : List Happening) (reads : ℕ) → stage_after_all Outside xs ≡ stage_at stop → reads_in (answers_in xs) ≡ reads → EndsBy stop l reads → EndsAs stop l (answers_in xs)
+ends_as : (stop : Ended) (l : LinkState) (xs : List Happening) (reads : ℕ) → stage_after_all Outside xs ≡ stage_at stop →
+    reads_in (answers_in xs) ≡ reads → EndsBy stop l reads → EndsAs stop l (answers_in xs)
 ends_as ended.Closed l xs reads at e h = h
 ends_as ended.ReadFault l xs reads at e h = h
 ends_as ended.WriteFault l xs reads at e h = h
@@ -155,7 +164,8 @@ ends_as ended.Paused l xs reads at e h = (h.0, h.1, e ∙ h.2)
 ends_as ended.GateShut l xs reads at e h = h
 
 module _ (old new : LinkState) (x y : Sides) (stop : Ended) (live : is_live old ≡ true) (w : Listens old new x y stop) where
-  moved : (past : List Session) → HasPast old past → HasPast new (sessions_after past (answers_in w.moves.happened) (deposits_in w.moves.happened))
+  moved : (past : List Session) → HasPast old past → HasPast new
+      (sessions_after past (answers_in w.moves.happened) (deposits_in w.moves.happened))
   moved [] h = never old h.0 live
   moved (s ∷ ss) h =
       let one = w.moves.stands s h.0 in
@@ -208,7 +218,8 @@ bad_is closing.WriteFailed why e = cc
 bad_is (closing.Bad other) why e = refl
 bad_is (closing.Refused other hello) why e = refl
 
-pub no_cause : (l : LinkState) (past : List Session) (why : Cause) → l.who ≡ Operator → HasPast l past → IsOver l → ended_of l.closing ≡ ended.BadFrame why → ⊥
+pub no_cause : (l : LinkState) (past : List Session) (why : Cause) → l.who ≡ Operator → HasPast l past → IsOver l →
+    ended_of l.closing ≡ ended.BadFrame why → ⊥
 no_cause l [] why who h over e = false≢true (sym (ap is_bad h.1) ∙ bad_is l.closing why e)
 no_cause l (s ∷ ss) why who h over e =
     false≢true
@@ -217,7 +228,8 @@ no_cause l (s ∷ ss) why who h over e =
     ∙ ap is_bad_in (h.0.why over.connection)
     ∙ bad_is l.closing why e)
 
-pub bad_ends : (l : LinkState) (stop : Ended) (why : Cause) (answers : List Answer) → stop ≡ ended.BadFrame why → EndsAs stop l answers → IsOver l × (ended_of l.closing ≡ ended.BadFrame why)
+pub bad_ends : (l : LinkState) (stop : Ended) (why : Cause) (answers : List Answer) → stop ≡ ended.BadFrame why → EndsAs stop l answers →
+    IsOver l × (ended_of l.closing ≡ ended.BadFrame why)
 bad_ends l stop why answers is ends = let P : Ended → Type 0 = λ e. EndsAs e l answers in subst P is ends
 
 -- ---- open
@@ -254,11 +266,13 @@ module _ (l : LinkState) (over : IsOver l) where
 -- ---- cut
 
 module _ (l : LinkState) where
-  taken_cut : (read : List ℕ) (done : List Notice) (taken : List ℕ) (calls : List Deposit) (n : ℕ) (b : Bool) → taken ≡ text_to_peer l.who done calls → IsTaken l.who (CutAfter n b) read done taken calls
+  taken_cut : (read : List ℕ) (done : List Notice) (taken : List ℕ) (calls : List Deposit) (n : ℕ) (b : Bool) →
+      taken ≡ text_to_peer l.who done calls → IsTaken l.who (CutAfter n b) read done taken calls
   taken_cut read done taken calls n true e = ([], append-nil taken ∙ e)
   taken_cut read done taken calls n false e = e
 
-  place_cut : (read behind : List ℕ) (next : Option ℕ) (n : ℕ) (o : Option SiteNotice) → l.pending.kept ≡ o → length read ≡ n → IsAt (CutAfter n (is_kept o)) (cut_state l) read next behind
+  place_cut : (read behind : List ℕ) (next : Option ℕ) (n : ℕ) (o : Option SiteNotice) → l.pending.kept ≡ o → length read ≡ n →
+      IsAt (CutAfter n (is_kept o)) (cut_state l) read next behind
   place_cut read behind next n None is e = (e, refl, refl, is)
   place_cut read behind next n (Some event) is e = (e, refl, refl)
 
@@ -274,11 +288,14 @@ module _ (l : LinkState) where
   lost_still None (stream.Lines with_new_connection) at = cc
 
   waits_on : (ns done : List Notice) → IsClosed l.connection → ns ≡ done ++ notices_waiting l → ns ≡ done ++ notices_waiting (cut_state l)
-  waits_on ns done at means = means ∙ ap (λ (o : Option ℕ). done ++ (kept_of l.pending.kept ++ lost_of o)) (lost_still l.pending.lost l.connection at)
+  waits_on ns done at means =
+      means ∙ ap (λ (o : Option ℕ). done ++ (kept_of l.pending.kept ++ lost_of o)) (lost_still l.pending.lost l.connection at)
 
   -- a connection that had ended stays as it ended
-  ended_cut : (came taken : List ℕ) (how : How) (cut : Bool) (calls : List Deposit) (h : IsLeftBy l (record { came = came; taken = taken; how = how; is_cut = cut; calls = calls })) →
-      IsClosed l.connection → IsAt how (cut_state l) h.read (next_onward l.who None h.done calls) h.behind → IsLeftBy (cut_state l) (record { came = came; taken = taken; how = how; is_cut = true; calls = calls })
+  ended_cut : (came taken : List ℕ) (how : How) (cut : Bool) (calls : List Deposit)
+      (h : IsLeftBy l (record { came = came; taken = taken; how = how; is_cut = cut; calls = calls })) →
+      IsClosed l.connection → IsAt how (cut_state l) h.read (next_onward l.who None h.done calls) h.behind →
+      IsLeftBy (cut_state l) (record { came = came; taken = taken; how = how; is_cut = true; calls = calls })
   ended_cut came taken how cut calls h closed place = record {
     read = h.read;
     behind = h.behind;
@@ -307,19 +324,22 @@ module _ (l : LinkState) where
             meaning_end l.who h.read (next_onward l.who None h.done calls)
             ∙ (λ i. h.means i ++ lost_of (up_of (sym h.place.1 i)))
             ∙ append_assoc h.done (notices_waiting l) (lost_of (up_of l.connection))
-            ∙ ap (λ (t : List Notice). h.done ++ t) (append_assoc (kept_of l.pending.kept) (lost_of l.pending.lost) (lost_of (up_of l.connection)))
+            ∙ ap (λ (t : List Notice). h.done ++ t)
+            (append_assoc (kept_of l.pending.kept) (lost_of l.pending.lost) (lost_of (up_of l.connection)))
             ∙ (λ i. h.done ++ (kept_of l.pending.kept ++ (lost_of (h.place.2 i) ++ lost_of (up_of l.connection))))
             ∙ (λ i. h.done ++ (kept_of l.pending.kept ++ lost_of (lost_then (sym h.place.2 i) (up_of l.connection))));
         events = h.events;
         taken = taken_cut h.read h.done taken calls (length came - length l.unread) (is_kept l.pending.kept) h.taken;
-        place = place_cut h.read h.behind (next_onward l.who None h.done calls) (length came - length l.unread) l.pending.kept refl (omega arith);
+        place = place_cut h.read h.behind (next_onward l.who None h.done calls) (length came - length l.unread) l.pending.kept refl
+            (omega arith);
         cut = refl;
         why = λ e. refl;
       }
   cut_by came taken InputOver cut calls h = ended_cut came taken InputOver cut calls h h.place.1 (h.place.0, refl, h.place.2)
   cut_by came taken ReadFaulty cut calls h = ended_cut came taken ReadFaulty cut calls h h.place.1 (h.place.0, refl, h.place.2)
   cut_by came taken WriteFaulty cut calls h = ended_cut came taken WriteFaulty cut calls h h.place.0 (refl, h.place.1)
-  cut_by came taken (CutAfter n false) cut calls h = ended_cut came taken (CutAfter n false) cut calls h h.place.1 (h.place.0, refl, refl, h.place.3)
+  cut_by came taken (CutAfter n false) cut calls h =
+      ended_cut came taken (CutAfter n false) cut calls h h.place.1 (h.place.0, refl, refl, h.place.3)
   cut_by came taken (CutAfter n true) cut calls h = ended_cut came taken (CutAfter n true) cut calls h h.place.1 (h.place.0, refl, refl)
 
   has_past_cut : (s : Session) → IsLeftBy l s → IsLeftBy (cut_state l) (cut_session l s)
@@ -346,13 +366,15 @@ cut_has_past l new calls later live m (s ∷ ss) h =
       subst P
           (ap (λ (k : Progress). k.session) (sym one.2)
           ∙ split_happened (progress_at (cut_session l s) 0) m.happened
-          ∙ ap (λ (r : List Answer). with_calls (progress_after_answers (progress_at (cut_session l s) 0) r).session (deposits_in m.happened)) (no_answers (answers_in m.happened) m.happens.port))
+          ∙ ap (λ (r : List Answer). with_calls (progress_after_answers (progress_at (cut_session l s) 0) r).session
+          (deposits_in m.happened)) (no_answers (answers_in m.happened) m.happens.port))
           one.1,
       subst Q (sym m.same) h.1,
     )
 
 pub cuts : (l new : LinkState) (calls later : List Deposit) → is_live l ≡ true →
-    ((reported : Option (List Answer)) (passed : Option (List Passage)) → Moves (moment (cut_state l) (sides reported calls passed) 0 Disordered) (moment new (sides reported later passed) 0 Disordered) 0) →
+    ((reported : Option (List Answer)) (passed : Option (List Passage)) →
+    Moves (moment (cut_state l) (sides reported calls passed) 0 Disordered) (moment new (sides reported later passed) 0 Disordered) 0) →
     Cuts l new calls later
 cuts l new calls later live moves =
     let m : Unseen l new calls later = moves (Some []) None in

@@ -74,7 +74,8 @@ HasLed who ns (Running (Open (First version) q) newest) = ⊥
 HasLed who ns (Running (Open (Later version) q) newest) = BeganIn who version ns
 HasLed who ns (Running (Faulty cause) newest) = ⊥
 
-began_more : (who : CarrierIdentity) (version : Version) (ns : List Notice) (o : Option Notice) → AreEvents (list_of_notice o) → BeganIn who version ns → BeganIn who version (ns ++ list_of_notice o)
+began_more : (who : CarrierIdentity) (version : Version) (ns : List Notice) (o : Option Notice) → AreEvents (list_of_notice o) →
+    BeganIn who version ns → BeganIn who version (ns ++ list_of_notice o)
 began_more who version ns o more began = record {
   events = began.events ++ list_of_notice o;
   is = ap (λ (xs : List Notice). xs ++ list_of_notice o) began.is;
@@ -83,17 +84,25 @@ began_more who version ns o more began = record {
 
 module _ (who : CarrierIdentity) (ns : List Notice) where
   first_led : (f : FrameIn) (b : Bool) → ns ≡ [] →
-      HasLed who (ns ++ list_of_notice (if b then Some (Accepted who.carrier (chosen_by who.greatest f)) else refusal_of_first who f)) (if b then Running (Open (Later (chosen_by who.greatest f)) []) None else Closed)
-  first_led f true none = record { events = []; is = ap (λ (xs : List Notice). xs ++ Accepted who.carrier (chosen_by who.greatest f) ∷ []) none; each = tt }
+      HasLed who (ns ++ list_of_notice (if b then Some (Accepted who.carrier (chosen_by who.greatest f)) else refusal_of_first who f))
+      (if b then Running (Open (Later (chosen_by who.greatest f)) []) None else Closed)
+  first_led f true none = record {
+    events = [];
+    is = ap (λ (xs : List Notice). xs ++ Accepted who.carrier (chosen_by who.greatest f) ∷ [])
+        none;
+    each = tt;
+  }
   first_led f false none = tt
 
-  waiting_led : (q : List ℕ) (x : ℕ) (s : Step) → ns ≡ [] → HasLed who (ns ++ list_of_notice (waiting_produces who s)) (waiting_leaves who (rest_after (First who.greatest) q x s) s)
+  waiting_led : (q : List ℕ) (x : ℕ) (s : Step) → ns ≡ [] → HasLed who (ns ++ list_of_notice (waiting_produces who s))
+      (waiting_leaves who (rest_after (First who.greatest) q x s) s)
   waiting_led q x Need none = (refl, append-nil ns ∙ none)
   waiting_led q x (Frame f) none = first_led f (is_accepted who f) none
   waiting_led q x (Fault cause) none = tt
 
   later_led : (version : Version) (newest : Option ℕ) (f : FrameIn) (last again : Bool) → BeganIn who version ns →
-      HasLed who (ns ++ list_of_notice (if again then None else Some (Happened (event_of who.carrier f)))) (if last then Closed else Running (Open (Later version) []) newest)
+      HasLed who (ns ++ list_of_notice (if again then None else Some (Happened (event_of who.carrier f))))
+      (if last then Closed else Running (Open (Later version) []) newest)
   later_led version newest f true again began = tt
   later_led version newest f false true began = began_more who version ns None tt began
   later_led version newest f false false began = began_more who version ns (Some (Happened (event_of who.carrier f))) (tt, tt) began
@@ -104,18 +113,21 @@ module _ (who : CarrierIdentity) (ns : List Notice) where
   running_led version newest q x (Frame f) began = later_led version (newest_after newest f) f (is_last f) (is_repeat newest f) began
   running_led version newest q x (Fault cause) began = tt
 
-  octet_led : (k : Connection) (x : ℕ) → HasLed who ns k → HasLed who (ns ++ list_of_notice (notice_of_octet who k x)) (connection_after_octet who k x)
+  octet_led : (k : Connection) (x : ℕ) → HasLed who ns k → HasLed who (ns ++ list_of_notice (notice_of_octet who k x))
+      (connection_after_octet who k x)
   octet_led Closed x led = tt
   octet_led (Waiting (Faulty cause)) x led = absurd led
   octet_led (Waiting (Open (Later version) q)) x led = absurd led
   octet_led (Waiting (Open (First greatest) q)) x led =
-      let P : Version → Type 0 = λ g. HasLed who (ns ++ list_of_notice (notice_of_octet who (Waiting (Open (First g) q)) x)) (connection_after_octet who (Waiting (Open (First g) q)) x) in
+      let P : Version → Type 0 = λ g. HasLed who (ns ++ list_of_notice (notice_of_octet who (Waiting (Open (First g) q)) x))
+      (connection_after_octet who (Waiting (Open (First g) q)) x) in
       subst P (sym led.0) (waiting_led q x (step_at (version_of (First who.greatest)) q x) led.1)
   octet_led (Running (Faulty cause) newest) x led = absurd led
   octet_led (Running (Open (First version) q) newest) x led = absurd led
   octet_led (Running (Open (Later version) q) newest) x led = running_led version newest q x (step_at version q x) led
 
-octets_led : (who : CarrierIdentity) (octets : List ℕ) (ns : List Notice) (k : Connection) → HasLed who ns k → HasLed who (ns ++ notices_of_octets who k octets) (connection_after_octets who k octets)
+octets_led : (who : CarrierIdentity) (octets : List ℕ) (ns : List Notice) (k : Connection) → HasLed who ns k →
+    HasLed who (ns ++ notices_of_octets who k octets) (connection_after_octets who k octets)
 octets_led who [] ns k led =
     let P : List Notice → Type 0 = λ xs. HasLed who xs k in
     subst P (sym (append-nil ns)) led
@@ -131,7 +143,8 @@ meaning_led who octets = rw (octets-open who octets, octets-left who octets) (oc
 -- ---- the number after an answer
 
 -- the number after the frames of events is of the same version as the number before them
-events_number : (version : Version) (carrier : ℕ) (events : List Notice) (entries : List Entry) (next : Option ℕ) → AreEvents events → IsNumbered version next →
+events_number : (version : Version) (carrier : ℕ) (events : List Notice) (entries : List Entry) (next : Option ℕ) → AreEvents events →
+    IsNumbered version next →
     IsNumbered version (next_after_frames next (session_frames carrier events entries))
 events_number version carrier [] entries next are is = is
 events_number version carrier (Accepted c v ∷ events) entries next are is = absurd are.0
@@ -149,12 +162,14 @@ events_number version carrier (Happened event ∷ events) (entry ∷ entries) ne
     said_numbers false = is
 
 -- the notice that is kept is the acceptance, or an event
-kept_number : (version : Version) (kept : Option SiteNotice) (next : Option ℕ) → AreEvents (kept_of kept) → IsNumbered version next → IsNumbered version (next_when_answered kept next)
+kept_number : (version : Version) (kept : Option SiteNotice) (next : Option ℕ) → AreEvents (kept_of kept) → IsNumbered version next →
+    IsNumbered version (next_when_answered kept next)
 kept_number version None next are is = is
 kept_number version (Some (site.Accepted c v)) next are is = absurd are.0
 kept_number version (Some (site.Happened event)) next are is = is
 
-tail_events : (done : List Notice) (more : List Notice) (events : List Notice) → events ≡ done ++ more → AreEvents events → AreEvents done × AreEvents more
+tail_events : (done : List Notice) (more : List Notice) (events : List Notice) → events ≡ done ++ more → AreEvents events → AreEvents done ×
+    AreEvents more
 tail_events [] more events is are =
     let P : List Notice → Type 0 = AreEvents in (tt, subst P is are)
 tail_events (n ∷ done) more events is are =
@@ -182,7 +197,8 @@ after_first [] = []
 after_first (n ∷ ns) = ns
 
 -- the acceptance is kept
-first_kept : (who : CarrierIdentity) (version : Version) (kept : Option SiteNotice) → BeganIn who version (kept_of kept) → IsNumbered version (next_when_answered kept None)
+first_kept : (who : CarrierIdentity) (version : Version) (kept : Option SiteNotice) → BeganIn who version (kept_of kept) →
+    IsNumbered version (next_when_answered kept None)
 first_kept who version None began = absurd (false≢true (ap accepts_first began.is))
 first_kept who version (Some (site.Happened event)) began = absurd (false≢true (ap accepts_first began.is))
 first_kept who version (Some (site.Accepted c v)) began =
@@ -190,38 +206,48 @@ first_kept who version (Some (site.Accepted c v)) began =
     subst P (ap (version_first version) began.is) (begins_numbered v)
 
 -- the acceptance was answered, and events came after it
-module _ (who : CarrierIdentity) (version v : Version) (c : ℕ) (ds : List Notice) (kept : Option SiteNotice) (began : BeganIn who version (Accepted c v ∷ (ds ++ kept_of kept))) where
+module _ (who : CarrierIdentity) (version v : Version) (c : ℕ) (ds : List Notice) (kept : Option SiteNotice)
+    (began : BeganIn who version (Accepted c v ∷ (ds ++ kept_of kept))) where
   its_events : AreEvents ds × AreEvents (kept_of kept)
   its_events = tail_events ds (kept_of kept) began.events (sym (ap after_first began.is)) began.each
 
   is_its_carrier : c == who.carrier ≡ true
   is_its_carrier = eq-eqb c who.carrier (ap (carrier_first c) began.is)
 
-  welcomed : (b : Bool) (entries : List Entry) → b ≡ true → IsNumbered v (next_after_frames None ((if b then welcome v else []) ++ session_frames who.carrier ds entries))
+  welcomed : (b : Bool) (entries : List Entry) → b ≡ true → IsNumbered v
+      (next_after_frames None ((if b then welcome v else []) ++ session_frames who.carrier ds entries))
   welcomed true entries is = events_number v who.carrier ds entries (first_number (version_octet v)) its_events.0 (begins_numbered v)
   welcomed false entries is = absurd (false≢true is)
 
-  first_answered : (entry : Entry) (entries : List Entry) → IsNumbered version (next_when_answered kept (next_after_frames None (session_frames who.carrier (Accepted c v ∷ ds) (entry ∷ entries))))
+  first_answered : (entry : Entry) (entries : List Entry) → IsNumbered version
+      (next_when_answered kept (next_after_frames None (session_frames who.carrier (Accepted c v ∷ ds) (entry ∷ entries))))
   first_answered entry entries =
-      let P : Version → Type 0 = λ u. IsNumbered u (next_when_answered kept (next_after_frames None (session_frames who.carrier (Accepted c v ∷ ds) (entry ∷ entries)))) in
+      let P : Version → Type 0 = λ u. IsNumbered u
+      (next_when_answered kept (next_after_frames None (session_frames who.carrier (Accepted c v ∷ ds) (entry ∷ entries)))) in
       subst P (ap (version_first version) began.is) (kept_number v kept _ its_events.1 (welcomed (c == who.carrier) entries is_its_carrier))
 
-answered_number : (who : CarrierIdentity) (version : Version) (done : List Notice) (kept : Option SiteNotice) (calls : List Deposit) → BeganIn who version (done ++ kept_of kept) →
-    events_in done ≡ map (λ d. d.event) calls → IsNumbered version (next_when_answered kept (next_after_frames None (session_frames who.carrier done (map entry_of_deposit calls))))
+answered_number : (who : CarrierIdentity) (version : Version) (done : List Notice) (kept : Option SiteNotice) (calls : List Deposit) →
+    BeganIn who version (done ++ kept_of kept) →
+    events_in done ≡ map (λ d. d.event) calls → IsNumbered version
+    (next_when_answered kept (next_after_frames None (session_frames who.carrier done (map entry_of_deposit calls))))
 answered_number who version [] kept calls began events = first_kept who version kept began
 answered_number who version (Happened event ∷ ds) kept calls began events = absurd (false≢true (ap accepts_first began.is))
 answered_number who version (Refused c refusal ∷ ds) kept calls began events = absurd (false≢true (ap accepts_first began.is))
 answered_number who version (Rejected fault ∷ ds) kept calls began events = absurd (false≢true (ap accepts_first began.is))
-answered_number who version (Accepted c v ∷ ds) kept [] began events = let none : suc (length (events_in ds)) ≡ 0 = ap (λ (es : List Event). length es) events in absurd (omega (arith, none))
-answered_number who version (Accepted c v ∷ ds) kept (call ∷ calls) began events = first_answered who version v c ds kept began (entry_of_deposit call) (map entry_of_deposit calls)
+answered_number who version (Accepted c v ∷ ds) kept [] began events = let none : suc (length (events_in ds)) ≡ 0 =
+    ap (λ (es : List Event). length es) events in absurd (omega (arith, none))
+answered_number who version (Accepted c v ∷ ds) kept (call ∷ calls) began events =
+    first_answered who version v c ds kept began (entry_of_deposit call) (map entry_of_deposit calls)
 
-led_numbered : (who : CarrierIdentity) (done : List Notice) (kept : Option SiteNotice) (calls : List Deposit) (k : Connection) → HasLed who (done ++ kept_of kept) k → events_in done ≡ map (λ d. d.event) calls →
+led_numbered : (who : CarrierIdentity) (done : List Notice) (kept : Option SiteNotice) (calls : List Deposit) (k : Connection) →
+    HasLed who (done ++ kept_of kept) k → events_in done ≡ map (λ d. d.event) calls →
     IsNumberingOf k (next_when_answered kept (next_after_frames None (session_frames who.carrier done (map entry_of_deposit calls))))
 led_numbered who done kept calls Closed led events = tt
 led_numbered who done kept calls (Waiting rest) led events = tt
 led_numbered who done kept calls (Running (Faulty cause) newest) led events = led
 led_numbered who done kept calls (Running (Open (First version) q) newest) led events = led
-led_numbered who done kept calls (Running (Open (Later version) q) newest) led events = answered_number who version done kept calls led events
+led_numbered who done kept calls (Running (Open (Later version) q) newest) led events =
+    answered_number who version done kept calls led events
 
 closed_numbered : (k : Stream) (kept : Option SiteNotice) → IsClosed k → IsLinkNumbering k kept
 closed_numbered stream.Closed kept closed = tt
@@ -234,10 +260,12 @@ closed_numbered (stream.Frames state) kept closed = shut state.connection closed
     shut (Running rest newest) closed = absurd (false≢true (sym closed))
 
 module _ (who : CarrierIdentity) (l : LinkState) (whose : l.who ≡ Carrier who) where
-  going_numbered : (read behind : List ℕ) (done : List Notice) (calls : List Deposit) → meaning_from l.who read false ≡ done ++ notices_waiting l → events_in done ≡ map (λ d. d.event) calls →
+  going_numbered : (read behind : List ℕ) (done : List Notice) (calls : List Deposit) →
+      meaning_from l.who read false ≡ done ++ notices_waiting l → events_in done ≡ map (λ d. d.event) calls →
       IsAt Going l read (next_onward l.who None done calls) behind → IsLinkNumbering l.connection l.pending.kept
   going_numbered read behind done calls means events place =
-      let here : l.connection ≡ left_from (Carrier who) read (next_onward (Carrier who) None done calls) = place.1 ∙ ap (λ (w : Peer). left_from w read (next_onward w None done calls)) whose in
+      let here : l.connection ≡ left_from (Carrier who) read (next_onward (Carrier who) None done calls) =
+      place.1 ∙ ap (λ (w : Peer). left_from w read (next_onward w None done calls)) whose in
       let all : meaning_of_octets who read false ≡ done ++ kept_of l.pending.kept =
       ap (λ (w : Peer). meaning_from w read false) (sym whose)
       ∙ means
@@ -247,7 +275,8 @@ module _ (who : CarrierIdentity) (l : LinkState) (whose : l.who ≡ Carrier who)
       let P : List Notice → Type 0 = λ ns. HasLed who ns (left_by_octets who read) in
       rw here (led_numbered who done l.pending.kept calls (left_by_octets who read) (subst P all (meaning_led who read)) events)
 
-  how_numbered : (how : How) (read behind : List ℕ) (done : List Notice) (calls : List Deposit) → meaning_from l.who read (has_ended how) ≡ done ++ notices_waiting l → events_in done ≡ map (λ d. d.event) calls →
+  how_numbered : (how : How) (read behind : List ℕ) (done : List Notice) (calls : List Deposit) →
+      meaning_from l.who read (has_ended how) ≡ done ++ notices_waiting l → events_in done ≡ map (λ d. d.event) calls →
       IsAt how l read (next_onward l.who None done calls) behind → IsLinkNumbering l.connection l.pending.kept
   how_numbered Going read behind done calls means events place = going_numbered read behind done calls means events place
   how_numbered InputOver read behind done calls means events place = closed_numbered l.connection l.pending.kept place.1

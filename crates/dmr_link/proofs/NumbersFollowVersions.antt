@@ -56,10 +56,12 @@ module _ (P : Option ℕ → Type 0) (counts : (next : Option ℕ) → P next �
   acts_keep (act.Began call ∷ acts) next is = acts_keep acts next is
   acts_keep (act.Ended slot ∷ acts) next is = acts_keep acts next is
 
-  event_keeps : (plan : Settings) (facts : Facts) (event : Event) (next : Option ℕ) → P next → P (next_after_frames next (frames_said plan facts (Happened event ∷ [])))
+  event_keeps : (plan : Settings) (facts : Facts) (event : Event) (next : Option ℕ) → P next →
+      P (next_after_frames next (frames_said plan facts (Happened event ∷ [])))
   event_keeps plan facts (Poll c) next is =
       let Q : List FrameOut → Type 0 = λ frames. P (next_after_frames next frames) in
-      subst Q (sym (append-nil (flat_map transmissions (acts_for_event plan facts (Poll c)) ++ out.Done ∷ []))) (acts_keep (acts_for_event plan facts (Poll c)) next is)
+      subst Q (sym (append-nil (flat_map transmissions (acts_for_event plan facts (Poll c)) ++ out.Done ∷ [])))
+      (acts_keep (acts_for_event plan facts (Poll c)) next is)
   event_keeps plan facts (Up c) next is = is
   event_keeps plan facts (Lost c) next is = is
   event_keeps plan facts (Heard slot pdu) next is = is
@@ -76,9 +78,11 @@ counted_stays b (Some n) is = is
 
 -- after the notice of an octet, TX are numbered exactly as `numbered_after_all` says
 pub numbered_said : (plan : Settings) (facts : Facts) (next : Option ℕ) (brought : Option Notice) →
-    is_some (next_after_frames next (frames_said plan facts (list_of_notice brought))) ≡ numbered_after_all (is_some next) (list_of_notice brought)
+    is_some (next_after_frames next (frames_said plan facts (list_of_notice brought))) ≡ numbered_after_all (is_some next)
+    (list_of_notice brought)
 numbered_said plan facts next None = refl
-numbered_said plan facts next (Some (Happened event)) = event_keeps (λ n. is_some n ≡ is_some next) (counted_stays (is_some next)) plan facts event next refl
+numbered_said plan facts next (Some (Happened event)) =
+    event_keeps (λ n. is_some n ≡ is_some next) (counted_stays (is_some next)) plan facts event next refl
 numbered_said plan facts next (Some (Accepted c version)) = refl
 numbered_said plan facts next (Some (Refused c refusal)) = refl
 numbered_said plan facts next (Some (Rejected fault)) = refl
@@ -106,7 +110,8 @@ begins_where false = tt
 
 -- a WELCOME starts the numbers of its version
 pub begins_numbered : (version : Version) → IsNumbered version (first_number (version_octet version))
-begins_numbered version = let P : Option ℕ → Type 0 = λ n. IsNumbered version n in subst P (sym (first_is version)) (begins_where (has_numbers version))
+begins_numbered version = let P : Option ℕ → Type 0 = λ n. IsNumbered version n in
+    subst P (sym (first_is version)) (begins_where (has_numbers version))
 
 counted_where : (b : Bool) (next : Option ℕ) → IsNumberWhere b next → IsNumberWhere b (counted next)
 counted_where false None is = is
@@ -118,7 +123,8 @@ counted_numbered : (version : Version) (next : Option ℕ) → IsNumbered versio
 counted_numbered version next is = counted_where (has_numbers version) next is
 
 -- the number after the answer to an event is of the same version
-pub event_frames_number : (version : Version) (event : Event) (acts : List Act) (next : Option ℕ) → IsNumbered version next → IsNumbered version (next_after_frames next (event_frames event acts))
+pub event_frames_number : (version : Version) (event : Event) (acts : List Act) (next : Option ℕ) → IsNumbered version next →
+    IsNumbered version (next_after_frames next (event_frames event acts))
 event_frames_number version (Poll c) acts next is = acts_keep (IsNumbered version) (counted_numbered version) acts next is
 event_frames_number version (Up c) acts next is = is
 event_frames_number version (Lost c) acts next is = is
@@ -134,39 +140,47 @@ module _ (who : CarrierIdentity) (plan : Settings) (facts : Facts) (next : Optio
   next_by brought = next_after_frames next (frames_said plan facts (list_of_notice brought))
 
   first_numbered : (f : FrameIn) (b : Bool) →
-      IsNumberingOf (if b then Running (Open (Later (chosen_by who.greatest f)) []) None else Closed) (next_by (if b then Some (Accepted who.carrier (chosen_by who.greatest f)) else refusal_of_first who f))
+      IsNumberingOf (if b then Running (Open (Later (chosen_by who.greatest f)) []) None else Closed)
+      (next_by (if b then Some (Accepted who.carrier (chosen_by who.greatest f)) else refusal_of_first who f))
   first_numbered f true = begins_numbered (chosen_by who.greatest f)
   first_numbered f false = tt
 
-  waiting_numbered : (q : List ℕ) (x : ℕ) (s : Step) → IsNumberingOf (waiting_leaves who (rest_after (First who.greatest) q x s) s) (next_by (waiting_produces who s))
+  waiting_numbered : (q : List ℕ) (x : ℕ) (s : Step) → IsNumberingOf (waiting_leaves who (rest_after (First who.greatest) q x s) s)
+      (next_by (waiting_produces who s))
   waiting_numbered q x Need = tt
   waiting_numbered q x (Frame f) = first_numbered f (is_accepted who f)
   waiting_numbered q x (Fault cause) = tt
 
   kept_numbered : (version : Version) (newest later : Option ℕ) (f : FrameIn) (last again : Bool) → IsNumbered version next →
-      IsNumberingOf (if last then Closed else Running (Open (Later version) []) later) (next_by (if again then None else Some (Happened (event_of who.carrier f))))
+      IsNumberingOf (if last then Closed else Running (Open (Later version) []) later)
+      (next_by (if again then None else Some (Happened (event_of who.carrier f))))
   kept_numbered version newest later f true again is = tt
   kept_numbered version newest later f false true is = is
-  kept_numbered version newest later f false false is = event_keeps (IsNumbered version) (counted_numbered version) plan facts (event_of who.carrier f) next is
+  kept_numbered version newest later f false false is =
+      event_keeps (IsNumbered version) (counted_numbered version) plan facts (event_of who.carrier f) next is
 
   running_numbered : (version : Version) (newest : Option ℕ) (q : List ℕ) (x : ℕ) (s : Step) → IsNumbered version next →
       IsNumberingOf (running_leaves (rest_after (Later version) q x s) newest s) (next_by (running_produces who.carrier newest s))
   running_numbered version newest q x Need is = is
-  running_numbered version newest q x (Frame f) is = kept_numbered version newest (newest_after newest f) f (is_last f) (is_repeat newest f) is
+  running_numbered version newest q x (Frame f) is =
+      kept_numbered version newest (newest_after newest f) f (is_last f) (is_repeat newest f) is
   running_numbered version newest q x (Fault cause) is = tt
 
   -- the number of the next TX stays one of the connection's version, octet by octet
-  pub numbering_goes : (k : Connection) (x : ℕ) → IsConnectionSound who.greatest k → IsNumberingOf k next → IsNumberingOf (connection_after_octet who k x) (next_by (notice_of_octet who k x))
+  pub numbering_goes : (k : Connection) (x : ℕ) → IsConnectionSound who.greatest k → IsNumberingOf k next →
+      IsNumberingOf (connection_after_octet who k x) (next_by (notice_of_octet who k x))
   numbering_goes Closed x sound is = tt
   numbering_goes (Waiting (Faulty cause)) x sound is = absurd sound
   numbering_goes (Waiting (Open t q)) x sound is =
-      let P : FrameTable → Type 0 = λ u. IsNumberingOf (connection_after_octet who (Waiting (Open u q)) x) (next_by (notice_of_octet who (Waiting (Open u q)) x)) in
+      let P : FrameTable → Type 0 = λ u. IsNumberingOf (connection_after_octet who (Waiting (Open u q)) x)
+      (next_by (notice_of_octet who (Waiting (Open u q)) x)) in
       subst P (sym sound.0) (waiting_numbered q x (step_at V1 q x))
   numbering_goes (Running (Faulty cause) newest) x sound is = absurd sound
   numbering_goes (Running (Open (First version) q) newest) x sound is = absurd sound
   numbering_goes (Running (Open (Later version) q) newest) x sound is = running_numbered version newest q x (step_at version q x) is
 
   -- the same for the values that the code computes
-  pub numbering_stays : (k later : Connection) (x : ℕ) (brought : Option Notice) (new : Option ℕ) → brought ≡ notice_of_octet who k x → later ≡ connection_after_octet who k x → new ≡ next_by brought →
+  pub numbering_stays : (k later : Connection) (x : ℕ) (brought : Option Notice) (new : Option ℕ) → brought ≡ notice_of_octet who k x →
+      later ≡ connection_after_octet who k x → new ≡ next_by brought →
       IsConnectionSound who.greatest k → IsNumberingOf k next → IsNumberingOf later new
   numbering_stays k later x brought new brings left counts sound is = rw (counts, brings, left) (numbering_goes k x sound is)

@@ -20,14 +20,16 @@ site-append : (site : Site) (a b : List Notice) → site_after_notices site (a +
 site-append site a b = (λ i. record { plan = site.plan; facts = fold-append (facts_after_notice site.plan) site.facts a b i })
 
 pub most-append : (numbered : Bool) (notice : Option Notice) (more : List Notice) →
-    most_in numbered (list_of_notice notice ++ more) ≡ most_in numbered (list_of_notice notice) + most_in (numbered_after_all numbered (list_of_notice notice)) more
+    most_in numbered (list_of_notice notice ++ more) ≡ most_in numbered (list_of_notice notice) + most_in
+    (numbered_after_all numbered (list_of_notice notice)) more
 most-append numbered None more = omega arith
 most-append numbered (Some notice) more = omega arith
 
 -- the carrier of the octets, the connection before the piece, the notice that the piece produced, and the connection
 -- after it
 module _ (who whose : CarrierIdentity) (same : whose ≡ who) (k later : Connection) (octets : List ℕ) (i n : ℕ) (brought : Option Notice)
-    (brings : notices_of_octets whose k (take n (drop i octets)) ≡ list_of_notice brought) (left : later ≡ connection_after_octets whose k (take n (drop i octets))) where
+    (brings : notices_of_octets whose k (take n (drop i octets)) ≡ list_of_notice brought)
+    (left : later ≡ connection_after_octets whose k (take n (drop i octets))) where
   abbrev before : List Notice
   before = notices_of_octets who k (drop i octets)
 
@@ -44,22 +46,27 @@ module _ (who whose : CarrierIdentity) (same : whose ≡ who) (k later : Connect
   notices_go =
       ap (notices_of_octets who k) in_two
       ∙ notices_of_octets-append who k (take n (drop i octets)) (drop (i + n) octets)
-      ∙ (λ j. (ap (λ (w : CarrierIdentity). notices_of_octets w k (take n (drop i octets))) (sym same) ∙ brings) j ++ notices_of_octets who (sym left_by j) (drop (i + n) octets))
+      ∙ (λ j. (ap (λ (w : CarrierIdentity). notices_of_octets w k (take n (drop i octets))) (sym same) ∙ brings) j ++ notices_of_octets who
+      (sym left_by j) (drop (i + n) octets))
 
-  pub connection_goes : (whole : Connection) → connection_after_octets who k (drop i octets) ≡ whole → connection_after_octets who later (drop (i + n) octets) ≡ whole
+  pub connection_goes : (whole : Connection) → connection_after_octets who k (drop i octets) ≡ whole →
+      connection_after_octets who later (drop (i + n) octets) ≡ whole
   connection_goes whole e =
       ap (λ (l : Connection). connection_after_octets who l (drop (i + n) octets)) left_by
       ∙ sym (fold-append (connection_after_octet who) k (take n (drop i octets)) (drop (i + n) octets))
       ∙ sym (ap (connection_after_octets who k) in_two)
       ∙ e
 
-  pub most_goes : (numbered : Bool) → most_in numbered before ≡ most_in numbered (list_of_notice brought) + most_in (numbered_after_all numbered (list_of_notice brought)) behind
+  pub most_goes : (numbered : Bool) → most_in numbered before ≡ most_in numbered (list_of_notice brought) + most_in
+      (numbered_after_all numbered (list_of_notice brought)) behind
   most_goes numbered = ap (most_in numbered) notices_go ∙ most-append numbered brought behind
 
-  pub room_goes : (numbered then : Bool) → then ≡ numbered_after_all numbered (list_of_notice brought) → (len more room rest : ℕ) → more ≤ len + most_in numbered (list_of_notice brought) → rest ≡ room →
+  pub room_goes : (numbered then : Bool) → then ≡ numbered_after_all numbered (list_of_notice brought) → (len more room rest : ℕ) →
+      more ≤ len + most_in numbered (list_of_notice brought) → rest ≡ room →
       len + most_in numbered before ≤ room → more + most_in then behind ≤ rest
   room_goes numbered then at len more room rest put kept fits =
-      let left : most_in then behind ≡ most_in (numbered_after_all numbered (list_of_notice brought)) behind = ap (λ (b : Bool). most_in b behind) at in
+      let left : most_in then behind ≡ most_in (numbered_after_all numbered (list_of_notice brought)) behind =
+      ap (λ (b : Bool). most_in b behind) at in
       omega (arith, most_goes numbered, left, put, kept, fits)
 
   -- the site after that notice
@@ -84,14 +91,16 @@ module _ (who whose : CarrierIdentity) (same : whose ≡ who) (k later : Connect
         ∙ ap (λ (s : Site). here ++ frames_said s.plan s.facts behind) (sym reported)
 
     module _ (next later_next : Option ℕ) (counted : later_next ≡ next_after_frames next here) where
-      pub items_go : (text more whole : List ℕ) → more ≡ text ++ frames_text next here → text ++ frames_text next (frames_said site.plan site.facts before) ≡ whole → more ++ frames_text later_next there ≡ whole
+      pub items_go : (text more whole : List ℕ) → more ≡ text ++ frames_text next here →
+          text ++ frames_text next (frames_said site.plan site.facts before) ≡ whole → more ++ frames_text later_next there ≡ whole
       items_go text more whole put e =
           (λ j. put j ++ frames_text (counted j) there)
           ∙ append_assoc text (frames_text next here) (frames_text (next_after_frames next here) there)
           ∙ ap (λ (t : List ℕ). text ++ t) (sym (ap (frames_text next) frames_go ∙ frames_text-append next here there))
           ∙ e
 
-      pub next_goes : (whole : Option ℕ) → next_after_frames next (frames_said site.plan site.facts before) ≡ whole → next_after_frames later_next there ≡ whole
+      pub next_goes : (whole : Option ℕ) → next_after_frames next (frames_said site.plan site.facts before) ≡ whole →
+          next_after_frames later_next there ≡ whole
       next_goes whole e =
           ap (λ (n : Option ℕ). next_after_frames n there) counted
           ∙ sym (ap (next_after_frames next) frames_go ∙ next_after_frames-append next here there)

@@ -18,12 +18,14 @@ use Rattle.dmr_link.proofs.PiecesInTwo.{console_from-append}
 
 -- ---- the notices of octets
 
-said_step : (step : LineStep) (lines : List LineStep) → flat_map line_means (line_produced step ++ lines) ≡ line_means step ++ flat_map line_means lines
+said_step : (step : LineStep) (lines : List LineStep) → flat_map line_means
+    (line_produced step ++ lines) ≡ line_means step ++ flat_map line_means lines
 said_step Need lines = refl
 said_step TooLong lines = refl
 said_step (Line line) lines = refl
 
-said_cons : (begun : List ℕ) (x : ℕ) (xs : List ℕ) → said_from begun (x ∷ xs) ≡ line_means (line_step_at begun x) ++ said_from (open_line_after_octet begun x) xs
+said_cons : (begun : List ℕ) (x : ℕ) (xs : List ℕ) → said_from begun (x ∷ xs) ≡ line_means (line_step_at begun x) ++ said_from
+    (open_line_after_octet begun x) xs
 said_cons begun x xs = said_step (line_step_at begun x) (line_steps_from (open_line_after_octet begun x) xs)
 
 said-append : (begun a b : List ℕ) → said_from begun (a ++ b) ≡ said_from begun a ++ said_from (open_line_after begun a) b
@@ -61,7 +63,8 @@ few_said begun [] = omega arith
 few_said begun (x ∷ xs) =
     let first : List Notice = line_means (line_step_at begun x) in
     let later : List Notice = said_from (open_line_after_octet begun x) xs in
-    let both : length (said_from begun (x ∷ xs)) ≡ length first + length later = ap length (said_cons begun x xs) ∙ length-append first later in
+    let both : length (said_from begun (x ∷ xs)) ≡ length first + length later =
+    ap length (said_cons begun x xs) ∙ length-append first later in
     omega (arith, both, one_end begun x, few_said (open_line_after_octet begun x) xs, ends_cons x xs)
 
 -- ---- octets up to the end of a line
@@ -88,7 +91,8 @@ module _ (begun left octets : List ℕ) (i : ℕ) (within : i < length octets) (
 
 -- ---- the octets after a line
 
-module _ (begun left octets : List ℕ) (i n : ℕ) (it : Option Notice) (brings : said_from begun (take n (drop i octets)) ≡ list_of_notice it) (left_is : left ≡ open_line_after begun (take n (drop i octets))) where
+module _ (begun left octets : List ℕ) (i n : ℕ) (it : Option Notice) (brings : said_from begun (take n (drop i octets)) ≡ list_of_notice it)
+    (left_is : left ≡ open_line_after begun (take n (drop i octets))) where
   abbrev more : List ℕ
   more = drop (i + n) octets
 
@@ -103,12 +107,15 @@ module _ (begun left octets : List ℕ) (i n : ℕ) (it : Option Notice) (brings
       ∙ e
 
   said_go : said_from begun (drop i octets) ≡ list_of_notice it ++ said_from left more
-  said_go = ap (said_from begun) in_two ∙ said-append begun (take n (drop i octets)) more ∙ (λ j. brings j ++ said_from (sym left_is j) more)
+  said_go =
+      ap (said_from begun) in_two ∙ said-append begun (take n (drop i octets)) more ∙ (λ j. brings j ++ said_from (sym left_is j) more)
 
   few_here : length (list_of_notice it) + ends_in more ≤ ends_in (drop i octets)
   few_here =
-      let two : ends_in (drop i octets) ≡ ends_in (take n (drop i octets)) + ends_in more = ap ends_in in_two ∙ ends-append (take n (drop i octets)) more in
-      let few : length (said_from begun (take n (drop i octets))) ≤ ends_in (take n (drop i octets)) = few_said begun (take n (drop i octets)) in
+      let two : ends_in (drop i octets) ≡ ends_in (take n (drop i octets)) + ends_in more =
+      ap ends_in in_two ∙ ends-append (take n (drop i octets)) more in
+      let few : length (said_from begun (take n (drop i octets))) ≤ ends_in (take n (drop i octets)) =
+      few_said begun (take n (drop i octets)) in
       let same : length (said_from begun (take n (drop i octets))) ≡ length (list_of_notice it) = ap length brings in
       omega (arith, two, few, same)
 
@@ -117,19 +124,26 @@ module _ (begun left octets : List ℕ) (i n : ℕ) (it : Option Notice) (brings
   line_fits len room h = omega (arith, few_here, h)
 
   -- after that there is room for the answers to the lines after it
-  pub lines_fit : (len room longer kept : ℕ) → len + 1024 * ends_in (drop i octets) ≤ room → longer ≤ len + 1024 * length (list_of_notice it) → kept ≡ room → longer + 1024 * ends_in more ≤ kept
+  pub lines_fit : (len room longer kept : ℕ) → len + 1024 * ends_in (drop i octets) ≤ room →
+      longer ≤ len + 1024 * length (list_of_notice it) → kept ≡ room → longer + 1024 * ends_in more ≤ kept
   lines_fit len room longer kept h few same = omega (arith, few_here, h, few, same)
 
   -- the site after the line
   module _ (old new : Site) (new_is : new ≡ site_after_notices old (list_of_notice it)) where
-    pub line_site : (whole : Site) → site_after_notices old (said_from begun (drop i octets)) ≡ whole → site_after_notices new (said_from left more) ≡ whole
+    pub line_site : (whole : Site) → site_after_notices old (said_from begun (drop i octets)) ≡ whole →
+        site_after_notices new (said_from left more) ≡ whole
     line_site whole e =
         ap (λ (s : Site). site_after_notices s (said_from left more)) new_is
-        ∙ (λ j. record { plan = old.plan; facts = sym (fold-append (facts_after_notice old.plan) old.facts (list_of_notice it) (said_from left more)) j })
+        ∙ (λ j. record {
+          plan = old.plan;
+          facts = sym
+              (fold-append (facts_after_notice old.plan) old.facts (list_of_notice it) (said_from left more)) j;
+        })
         ∙ ap (site_after_notices old) (sym said_go)
         ∙ e
 
-    pub line_items : (text longer whole : List ℕ) → longer ≡ text ++ console_from old.plan old.facts (list_of_notice it) → text ++ console_from old.plan old.facts (said_from begun (drop i octets)) ≡ whole →
+    pub line_items : (text longer whole : List ℕ) → longer ≡ text ++ console_from old.plan old.facts (list_of_notice it) →
+        text ++ console_from old.plan old.facts (said_from begun (drop i octets)) ≡ whole →
         longer ++ console_from new.plan new.facts (said_from left more) ≡ whole
     line_items text longer whole longer_is e =
         let first : List ℕ = console_from old.plan old.facts (list_of_notice it) in
@@ -137,5 +151,6 @@ module _ (begun left octets : List ℕ) (i n : ℕ) (it : Option Notice) (brings
         (λ j. longer_is j ++ console_from (new_is j).plan (new_is j).facts (said_from left more))
         ∙ append_assoc text first then
         ∙ ap (λ (t : List ℕ). text ++ t)
-        (sym (console_from-append old.plan old.facts (list_of_notice it) (said_from left more)) ∙ ap (console_from old.plan old.facts) (sym said_go))
+        (sym (console_from-append old.plan old.facts (list_of_notice it) (said_from left more))
+        ∙ ap (console_from old.plan old.facts) (sym said_go))
         ∙ e

@@ -37,11 +37,13 @@ pub record IsSmall (c : ℕ) (who : CarrierIdentity) : Type 0 where
   pub carrier : who.carrier ≡ c
   pub lpcn : who.lpcn < 65536
 
-row_small : (rows : List CarrierRow) (c : ℕ) (row : CarrierRow) → All IsCarrierRow rows → row_with rows c ≡ Some row → (c < 16) × (row.lpcn < 65536)
+row_small : (rows : List CarrierRow) (c : ℕ) (row : CarrierRow) → All IsCarrierRow rows → row_with rows c ≡ Some row → (c < 16) ×
+    (row.lpcn < 65536)
 row_small [] c row each e = cc
 row_small (r ∷ rows) c row each e = either (r.number == c) refl e (row_small rows c row (All-tail IsCarrierRow r rows each))
   where
-    either : (b : Bool) → (r.number == c) ≡ b → cond b (Some r) (row_with rows c) ≡ Some row → (row_with rows c ≡ Some row → (c < 16) × (row.lpcn < 65536)) → (c < 16) × (row.lpcn < 65536)
+    either : (b : Bool) → (r.number == c) ≡ b → cond b (Some r) (row_with rows c) ≡ Some row →
+        (row_with rows c ≡ Some row → (c < 16) × (row.lpcn < 65536)) → (c < 16) × (row.lpcn < 65536)
     either true test found more =
         let same : r.number ≡ c = grind (arith, nat_tests) in
         let row_is : r ≡ row = cc in
@@ -52,12 +54,18 @@ row_small (r ∷ rows) c row each e = either (r.number == c) refl e (row_small r
         (omega arith, omega arith)
     either false test found more = more found
 
-who_cases : (c : ℕ) (greatest : Version) (who : CarrierIdentity) (o : Option CarrierRow) → option_map (λ (row : CarrierRow). record { carrier = c; lpcn = row.lpcn; greatest = greatest }) o ≡ Some who →
+who_cases : (c : ℕ) (greatest : Version) (who : CarrierIdentity) (o : Option CarrierRow) →
+    option_map (λ (row : CarrierRow). record { carrier = c; lpcn = row.lpcn; greatest = greatest }) o ≡ Some who →
     (row : CarrierRow) × (o ≡ Some row) × (who.carrier ≡ c) × (who.lpcn ≡ row.lpcn) × (who.greatest ≡ greatest)
 who_cases c greatest who None e = cc
 who_cases c greatest who (Some row) e =
-    let same : record { carrier = c; lpcn = row.lpcn; greatest = greatest } ≡ who = cc in
-    (row, refl, sym (ap (λ (w : CarrierIdentity). w.carrier) same), sym (ap (λ (w : CarrierIdentity). w.lpcn) same), sym (ap (λ (w : CarrierIdentity). w.greatest) same))
+    let same : record { carrier = c; lpcn = row.lpcn; greatest = greatest } ≡ who = cc in (
+      row,
+      refl,
+      sym (ap (λ (w : CarrierIdentity). w.carrier) same),
+      sym (ap (λ (w : CarrierIdentity). w.lpcn) same),
+      sym (ap (λ (w : CarrierIdentity). w.greatest) same),
+    )
 
 pub who_carrier : (plan : Settings) (c : ℕ) (who : CarrierIdentity) → who_of plan c ≡ Some who → who.carrier ≡ c
 who_carrier plan c who e = (who_cases c (greatest_of plan) who (row_with plan.lists.carriers c) e).2
@@ -89,10 +97,15 @@ sixteen_by s (Some who) piece h = length-set s.connections who.carrier (piece_le
 
 numbers_sixteen : (s : State) (o : Option CarrierIdentity) (piece : Piece) → length s.numbers ≡ 16 → length (numbers_by s o piece) ≡ 16
 numbers_sixteen s None piece h = h
-numbers_sixteen s (Some who) piece h = length-set s.numbers who.carrier (next_after_frames (next_of s who.carrier) (frames_by s (Some who) piece)) ∙ h
+numbers_sixteen s (Some who) piece h =
+    length-set s.numbers who.carrier (next_after_frames (next_of s who.carrier) (frames_by s (Some who) piece)) ∙ h
 
 pub fits_after : (s : State) (i : Input) → Fits s → Fits (input_leaves s i)
-fits_after s (At c piece) h = record { plan = h.plan; sixteen = sixteen_by s (who_of s.plan c) piece h.sixteen; numbers = numbers_sixteen s (who_of s.plan c) piece h.numbers }
+fits_after s (At c piece) h = record {
+  plan = h.plan;
+  sixteen = sixteen_by s (who_of s.plan c) piece h.sixteen;
+  numbers = numbers_sixteen s (who_of s.plan c) piece h.numbers;
+}
 fits_after s (Saying octets) h = record { plan = h.plan; sixteen = h.sixteen; numbers = h.numbers }
 fits_after s Ticking h = record { plan = h.plan; sixteen = h.sixteen; numbers = h.numbers }
 
@@ -103,19 +116,23 @@ abbrev AreLeft : State → (ℕ → List Record) → Type 0
 AreLeft s rs = (c : ℕ) (who : CarrierIdentity) → who_of s.plan c ≡ Some who → connection_of s c ≡ left_by_records who (rs c)
 
 -- a piece adds to the meaning of a carrier's records exactly the notices that it produces
-adds_here : (s : State) (rs : ℕ → List Record) (c : ℕ) (o : Option CarrierIdentity) (piece : Piece) → who_of s.plan c ≡ o → Fits s → AreLeft s rs → produced_by s o piece ≡ added_by rs o piece
+adds_here : (s : State) (rs : ℕ → List Record) (c : ℕ) (o : Option CarrierIdentity) (piece : Piece) → who_of s.plan c ≡ o → Fits s →
+    AreLeft s rs → produced_by s o piece ≡ added_by rs o piece
 adds_here s rs c None piece e fit h = refl
 adds_here s rs c (Some who) piece e fit h =
     let small = who_small s.plan c who fit.plan e in
-    let same : connection_of s who.carrier ≡ left_by_records who (rs who.carrier) = ap (connection_of s) small.carrier ∙ h c who e ∙ ap (λ (n : ℕ). left_by_records who (rs n)) (sym small.carrier) in
+    let same : connection_of s who.carrier ≡ left_by_records who (rs who.carrier) =
+    ap (connection_of s) small.carrier ∙ h c who e ∙ ap (λ (n : ℕ). left_by_records who (rs n)) (sym small.carrier) in
     let before : List Notice = meaning_of_records who (rs who.carrier) in
     ap (λ (k : Connection). piece_produces who k piece) same
-    ∙ sym (ap (drop (length before)) (adds who (rs who.carrier) piece) ∙ drop_at before (piece_produces who (left_by_records who (rs who.carrier)) piece) (length before) refl)
+    ∙ sym (ap (drop (length before)) (adds who (rs who.carrier) piece) ∙ drop_at before
+    (piece_produces who (left_by_records who (rs who.carrier)) piece) (length before) refl)
 
 some_is : (v w : CarrierIdentity) → Some v ≡ Some w → v ≡ w
 some_is v w e = cc
 
-has_past_here : (s : State) (rs : ℕ → List Record) (c : ℕ) (o : Option CarrierIdentity) (piece : Piece) → who_of s.plan c ≡ o → Fits s → AreLeft s rs → AreLeft (leaves_by s o piece) (recorded_by rs o piece)
+has_past_here : (s : State) (rs : ℕ → List Record) (c : ℕ) (o : Option CarrierIdentity) (piece : Piece) → who_of s.plan c ≡ o → Fits s →
+    AreLeft s rs → AreLeft (leaves_by s o piece) (recorded_by rs o piece)
 has_past_here s rs c None piece e fit h = h
 has_past_here s rs c (Some who) piece e fit h = λ d v f.
     let small = who_small s.plan c who fit.plan e in
@@ -125,7 +142,8 @@ has_past_here s rs c (Some who) piece e fit h = λ d v f.
     let lookup : who_of s.plan d ≡ Some who = ap (who_of s.plan) (at ∙ small.carrier) ∙ e in
     let same : who ≡ v = some_is who v (sym lookup ∙ f) in
     let here : d < length s.connections = omega (arith, fit.sixteen, small.number, small.carrier) in
-    let read : get_or (set s.connections who.carrier new) d Closed ≡ new = ap (λ (n : ℕ). get_or (set s.connections n new) d Closed) (sym at) ∙ get_or-set_same s.connections d new Closed here in
+    let read : get_or (set s.connections who.carrier new) d Closed ≡ new =
+    ap (λ (n : ℕ). get_or (set s.connections n new) d Closed) (sym at) ∙ get_or-set_same s.connections d new Closed here in
     let was : connection_of s who.carrier ≡ left_by_records who (rs d) = ap (connection_of s) (sym at) ∙ h d who lookup in
     read ∙ ap (λ (k : Connection). piece_leaves who k piece) was ∙ sym (leaves who (rs d) piece)
     ∙ ap (λ (w : CarrierIdentity). left_by_records w (records_after (rs d) piece)) same
@@ -141,13 +159,16 @@ said_from-append begun a b =
     ap (λ (lines : List LineStep). flat_map line_means lines) (line_steps-append begun a b)
     ∙ flat_map-append line_means (line_steps_from begun a) (line_steps_from (open_line_after begun a) b)
 
-said_more : (past : Past) (begun octets : List ℕ) → begun ≡ open_line_after [] past.console → meaning_of_text (past.console ++ octets) ≡ meaning_of_text past.console ++ said_from begun octets
+said_more : (past : Past) (begun octets : List ℕ) → begun ≡ open_line_after [] past.console →
+    meaning_of_text (past.console ++ octets) ≡ meaning_of_text past.console ++ said_from begun octets
 said_more past begun octets is =
-    let whole : (xs : List ℕ) → said_from [] xs ≡ meaning_of_text xs = λ xs. ap (λ (lines : List LineStep). flat_map line_means lines) (lines_whole xs) in
+    let whole : (xs : List ℕ) → said_from [] xs ≡ meaning_of_text xs = λ xs. ap (λ (lines : List LineStep). flat_map line_means lines)
+    (lines_whole xs) in
     sym (whole (past.console ++ octets)) ∙ said_from-append [] past.console octets
     ∙ (λ i. whole past.console i ++ said_from (sym is i) octets)
 
-said_adds : (past : Past) (begun octets : List ℕ) → begun ≡ open_line_after [] past.console → said_from begun octets ≡ drop (length (meaning_of_text past.console)) (meaning_of_text (past.console ++ octets))
+said_adds : (past : Past) (begun octets : List ℕ) → begun ≡ open_line_after [] past.console →
+    said_from begun octets ≡ drop (length (meaning_of_text past.console)) (meaning_of_text (past.console ++ octets))
 said_adds past begun octets is =
     let before : List Notice = meaning_of_text past.console in
     sym (ap (drop (length before)) (said_more past begun octets is) ∙ drop_at before (said_from begun octets) (length before) refl)
@@ -158,7 +179,8 @@ input_adds s past (Saying octets) fit h = said_adds past s.console octets (h.con
 input_adds s past Ticking fit h = refl
 
 input_has_past : (s : State) (past : Past) (i : Input) → Fits s → HasPast s past → HasPast (input_leaves s i) (input_past s.plan past i)
-input_has_past s past (At c piece) fit h = record { connections = has_past_here s past.carriers c (who_of s.plan c) piece refl fit h.connections; console = h.console }
+input_has_past s past (At c piece) fit h = record
+    { connections = has_past_here s past.carriers c (who_of s.plan c) piece refl fit h.connections; console = h.console }
 input_has_past s past (Saying octets) fit h = record {
   connections = h.connections;
   console = ap (λ (begun : List ℕ). open_line_after begun octets) (h.console ∙ sym (rest_whole past.console))
@@ -185,11 +207,13 @@ all_produced-means s past (i ∷ is) fit h =
     (all_produced-means (input_leaves s i) (input_past s.plan past i) is (fits_after s i fit) (input_has_past s past i fit h)
     ∙ ap (λ (plan : Settings). all_mean plan (input_past s.plan past i) is) (plan_stays s i))
 
-pub all_have_past : (s : State) (past : Past) (is : List Input) → Fits s → HasPast s past → HasPast (all_leave s is) (all_past s.plan past is)
+pub all_have_past : (s : State) (past : Past) (is : List Input) → Fits s → HasPast s past →
+    HasPast (all_leave s is) (all_past s.plan past is)
 all_have_past s past [] fit h = h
 all_have_past s past (i ∷ is) fit h =
     let P : Settings → Type 0 = λ plan. HasPast (all_leave (input_leaves s i) is) (all_past plan (input_past s.plan past i) is) in
-    subst P (plan_stays s i) (all_have_past (input_leaves s i) (input_past s.plan past i) is (fits_after s i fit) (input_has_past s past i fit h))
+    subst P (plan_stays s i) (all_have_past (input_leaves s i) (input_past s.plan past i) is (fits_after s i fit)
+    (input_has_past s past i fit h))
 
 -- ---- the past without inputs
 

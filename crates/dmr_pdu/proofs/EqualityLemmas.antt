@@ -32,8 +32,21 @@ same_beq false true e = e
 
 eq-same : (p q : Pdu) → (pdu_eq.ghosts).eq p q ≡ true → p ≡ q
 eq-same (Aloha a b c d e f g h i j k) (Aloha a' b' c' d' e' f' g' h' i' j' k') told =
-    let r = each (beq a a' ∷ eqb b b' ∷ beq c c' ∷ beq d d' ∷ eqb e e' ∷ eqb f f' ∷ eqb g g' ∷ beq h h' ∷ eqb i i' ∷ eqb j j' ∷ eqb k k' ∷ []) told in
-    cc (same_beq a a' r.0, eqb-true b b' r.1.0, same_beq c c' r.1.1.0, same_beq d d' r.1.1.1.0, eqb-true e e' r.1.1.1.1.0, eqb-true f f' r.1.1.1.1.1.0, eqb-true g g' r.1.1.1.1.1.1.0, same_beq h h' r.1.1.1.1.1.1.1.0, eqb-true i i' r.1.1.1.1.1.1.1.1.0, eqb-true j j' r.1.1.1.1.1.1.1.1.1.0, eqb-true k k' r.1.1.1.1.1.1.1.1.1.1.0)
+    let r = each (beq a a' ∷ eqb b b' ∷ beq c c' ∷ beq d d' ∷ eqb e e' ∷ eqb f f' ∷ eqb g g' ∷ beq h h' ∷ eqb i i' ∷ eqb j j' ∷ eqb k
+    k' ∷ []) told in
+    cc (
+      same_beq a a' r.0,
+      eqb-true b b' r.1.0,
+      same_beq c c' r.1.1.0,
+      same_beq d d' r.1.1.1.0,
+      eqb-true e e' r.1.1.1.1.0,
+      eqb-true f f' r.1.1.1.1.1.0,
+      eqb-true g g' r.1.1.1.1.1.1.0,
+      same_beq h h' r.1.1.1.1.1.1.1.0,
+      eqb-true i i' r.1.1.1.1.1.1.1.1.0,
+      eqb-true j j' r.1.1.1.1.1.1.1.1.1.0,
+      eqb-true k k' r.1.1.1.1.1.1.1.1.1.1.0,
+    )
 eq-same (Ahoy a b c d e) (Ahoy a' b' c' d' e') told = search rules
 eq-same (Random a b c d e) (Random a' b' c' d' e') told = search rules
 eq-same (Ackd a b c d e) (Ackd a' b' c' d' e') told = search rules

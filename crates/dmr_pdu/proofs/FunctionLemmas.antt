@@ -20,7 +20,8 @@ use Rattle.dmr_pdu.proofs.LayoutLemmas.{layout-fills, laid_out-read, agrees-laid
 -- ---- the octets of a PDU
 
 -- if rows that fill the octets hold, each bit is that of the rows
-row_bit-is : (first : ℕ) (rows : List Row) (octets : List ℕ) → fills first rows ≡ true → Holds octets rows → (q : ℕ) → first ≤ q → q < 80 → row_bit rows q ≡ octet_bit octets q
+row_bit-is : (first : ℕ) (rows : List Row) (octets : List ℕ) → fills first rows ≡ true → Holds octets rows → (q : ℕ) → first ≤ q → q < 80 →
+    row_bit rows q ≡ octet_bit octets q
 row_bit-is first [] octets e holds q low high = absurd (omega (arith, eqb-true first 80 e))
 row_bit-is first (r ∷ rows) octets e holds q low high =
     let here = follows first r rows e in
@@ -34,7 +35,8 @@ row_bit-is first (r ∷ rows) octets e holds q low high =
     ∙ bits_value-bit (octet_bit octets) r.0.first r.0.width (q - first) (omega (arith, here.starts))
     ∙ ap (octet_bit octets) at))
     (λ (behind : r.0.first + r.0.width ≤ q).
-    rw (le-ltb q (r.0.first + r.0.width) behind) (row_bit-is (first + r.0.width) rows octets here.rest holds.1 q (omega (arith, here.starts)) high))
+    rw (le-ltb q (r.0.first + r.0.width) behind)
+    (row_bit-is (first + r.0.width) rows octets here.rest holds.1 q (omega (arith, here.starts)) high))
     (cases_lt q (r.0.first + r.0.width))
 
 written : List Row → List ℕ
@@ -60,12 +62,14 @@ written-octets rows = record {
 written-bit : (rows : List Row) (q : ℕ) → q < 80 → octet_bit (written rows) q ≡ row_bit rows q
 written-bit rows q lt =
     let at : 8 * (q / 8) + q % 8 ≡ q = omega arith in
-    rw (octet-written rows (q / 8) (omega arith)) (bits_value-bit (row_bit rows) (8 * (q / 8)) 8 (q % 8) (omega arith) ∙ ap (row_bit rows) at)
+    rw (octet-written rows (q / 8) (omega arith))
+    (bits_value-bit (row_bit rows) (8 * (q / 8)) 8 (q % 8) (omega arith) ∙ ap (row_bit rows) at)
 
 written-is : (pdu : Pdu) (octets : List ℕ) → IsOctets 10 octets → IsLaidOut pdu octets → written (layout pdu) ≡ octets
 written-is pdu octets is_octets is =
     octets-same 10 (written (layout pdu)) octets (written-octets (layout pdu)) is_octets (λ q lt.
-    written-bit (layout pdu) q (omega arith) ∙ row_bit-is 0 (layout pdu) octets (layout-fills pdu is.listed) is.rows q (omega arith) (omega arith))
+    written-bit (layout pdu) q (omega arith) ∙ row_bit-is 0 (layout pdu) octets (layout-fills pdu is.listed) is.rows q (omega arith)
+    (omega arith))
 
 -- octets that a PDU is written as are its octets
 pub octets_of-spells : (pdu : Pdu) (octets : List ℕ) → IsOctets 10 octets → SpellsPdu pdu octets → octets_of pdu ≡ octets
@@ -83,7 +87,8 @@ do_hold-true octets (r ∷ rows) e =
 
 do_hold-holds : (octets : List ℕ) (rows : List Row) → Holds octets rows → do_hold octets rows ≡ true
 do_hold-holds octets [] holds = refl
-do_hold-holds octets (r ∷ rows) holds = and_from (field_of octets r.0.first r.0.width == r.1) (do_hold octets rows) (eq-eqb (field_of octets r.0.first r.0.width) r.1 holds.0) (do_hold-holds octets rows holds.1)
+do_hold-holds octets (r ∷ rows) holds = and_from (field_of octets r.0.first r.0.width == r.1) (do_hold octets rows)
+    (eq-eqb (field_of octets r.0.first r.0.width) r.1 holds.0) (do_hold-holds octets rows holds.1)
 
 -- a PDU that was read has a layout, and a channel number from 1 to 4094 if it has any
 record IsFormed (pdu : Pdu) : Type 0 where
@@ -94,9 +99,11 @@ either : (b : Bool) (x y : Option Pdu) → IfSome x IsFormed → IfSome y IsForm
 either true x y x_is y_is = x_is
 either false x y x_is y_is = y_is
 
-channel-within : (n : ℕ) (b : Bool) → (nat_le 1 n && nat_le n 4094) ≡ b → (f : ℕ → Pdu) → ((lpcn : ℕ) → IsChannel lpcn → IsFormed (f lpcn)) → IfSome (option_map f (cond b (Some n) None)) IsFormed
+channel-within : (n : ℕ) (b : Bool) → (nat_le 1 n && nat_le n 4094) ≡ b → (f : ℕ → Pdu) →
+    ((lpcn : ℕ) → IsChannel lpcn → IsFormed (f lpcn)) → IfSome (option_map f (cond b (Some n) None)) IsFormed
 channel-within n false e f formed = tt
-channel-within n true e f formed = let parts = and_parts (nat_le 1 n) (nat_le n 4094) e in formed n (leb-true 1 n parts.0, leb-true n 4094 parts.1)
+channel-within n true e f formed = let parts =
+    and_parts (nat_le 1 n) (nat_le n 4094) e in formed n (leb-true 1 n parts.0, leb-true n 4094 parts.1)
 
 on_channel : (n : ℕ) (f : ℕ → Pdu) → ((lpcn : ℕ) → IsChannel lpcn → IsFormed (f lpcn)) → IfSome (option_map f (channel n)) IsFormed
 on_channel n f formed = channel-within n (nat_le 1 n && nat_le n 4094) refl f formed
@@ -117,20 +124,24 @@ read_as-formed opcode o =
 
 -- if nothing is read, or the layout does not hold, no PDU is laid out in the octets
 none-unread : (octets : List ℕ) → read_as (field_of octets 0 8) octets ≡ None → (pdu : Pdu) → ¬ IsLaidOut pdu octets
-none-unread octets e pdu is = let read : read_as (field_of octets 0 8) octets ≡ Some pdu = laid_out-read pdu octets is in let both : None ≡ Some pdu = sym e ∙ read in cc
+none-unread octets e pdu is = let read : read_as (field_of octets 0 8) octets ≡ Some pdu =
+    laid_out-read pdu octets is in let both : None ≡ Some pdu = sym e ∙ read in cc
 
-pdu_or_other-agrees : (octets : List ℕ) (found : Option Pdu) → read_as (field_of octets 0 8) octets ≡ found → IfSome found IsFormed → Agrees (pdu_or_other octets found) octets
+pdu_or_other-agrees : (octets : List ℕ) (found : Option Pdu) → read_as (field_of octets 0 8) octets ≡ found → IfSome found IsFormed →
+    Agrees (pdu_or_other octets found) octets
 pdu_or_other-agrees octets None e formed = agrees-other octets (none-unread octets e)
 pdu_or_other-agrees octets (Some pdu) e formed =
     ⊎_elim
     (λ (yes : do_hold octets (layout pdu) ≡ true).
-    rw yes (agrees-laid_out pdu octets (record { listed = formed.listed; rows = do_hold-true octets (layout pdu) yes; channel = formed.channel_is })))
+    rw yes (agrees-laid_out pdu octets
+    (record { listed = formed.listed; rows = do_hold-true octets (layout pdu) yes; channel = formed.channel_is })))
     (λ (no : do_hold octets (layout pdu) ≡ false).
     rw no (agrees-other octets (λ other is.
     let read : read_as (field_of octets 0 8) octets ≡ Some other = laid_out-read other octets is in
     let both : Some pdu ≡ Some other = sym e ∙ read in
     let same : pdu ≡ other = cc in
-    let holds : do_hold octets (layout pdu) ≡ true = ap (λ (p : Pdu). do_hold octets (layout p)) same ∙ do_hold-holds octets (layout other) is.rows in
+    let holds : do_hold octets (layout pdu) ≡ true =
+    ap (λ (p : Pdu). do_hold octets (layout p)) same ∙ do_hold-holds octets (layout other) is.rows in
     false≢true (sym no ∙ holds))))
     (cases_Bool (do_hold octets (layout pdu)))
 

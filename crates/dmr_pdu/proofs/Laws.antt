@@ -16,4 +16,5 @@ module _ {S X Y : Type 0} (next : S → X → S) (out : S → X → Y) where
   -- the first
   pub items-append : {Z : Type 0} (items : Y → List Z) (s : S) (a b : List X) →
       flat_map items (scan next out s (a ++ b)) ≡ flat_map items (scan next out s a) ++ flat_map items (scan next out (fold next s a) b)
-  items-append items s a b = ap (flat_map items) (scan-append s a b) ∙ flat_map-append items (scan next out s a) (scan next out (fold next s a) b)
+  items-append items s a b =
+      ap (flat_map items) (scan-append s a b) ∙ flat_map-append items (scan next out s a) (scan next out (fold next s a) b)

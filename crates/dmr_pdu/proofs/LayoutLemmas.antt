@@ -26,14 +26,16 @@ layout-fills (Other octets) is = absurd is
 
 -- the octets of a PDU are determined
 pub laid_out_alone : (pdu : Pdu) (a b : List ℕ) → IsOctets 10 a → IsOctets 10 b → IsLaidOut pdu a → IsLaidOut pdu b → a ≡ b
-laid_out_alone pdu a b a_octets b_octets a_is b_is = rows_determine (layout pdu) a b (layout-fills pdu a_is.listed) a_octets b_octets a_is.rows b_is.rows
+laid_out_alone pdu a b a_octets b_octets a_is b_is =
+    rows_determine (layout pdu) a b (layout-fills pdu a_is.listed) a_octets b_octets a_is.rows b_is.rows
 
 bit-read : (o : List ℕ) (first : ℕ) (b : Bool) → field_of o first 1 ≡ bit b → bit_of o first ≡ b
 bit-read o first true e = ap (λ n. n == 1) e
 bit-read o first false e = ap (λ n. n == 1) e
 
 channel-is : (m n : ℕ) → m ≡ n → IsChannel n → channel m ≡ Some n
-channel-is m n e is = ap channel e ∙ ap (λ t. if t then Some n else None) (and_from (nat_le 1 n) (nat_le n 4094) (le-leb 1 n is.0) (le-leb n 4094 is.1))
+channel-is m n e is =
+    ap channel e ∙ ap (λ t. if t then Some n else None) (and_from (nat_le 1 n) (nat_le n 4094) (le-leb 1 n is.0) (le-leb n 4094 is.1))
 
 -- row `i` of a layout holds
 abbrev RowHolds : List ℕ → List Row → ℕ → Type 0
@@ -48,10 +50,13 @@ row-holds o (r ∷ rows) holds (suc i) = row-holds o rows holds.1 i
 
 -- octets in which the rows of a PDU's layout hold are read as that PDU: one line for each layout, with rows counted
 -- from 0
-read-rows : (pdu : Pdu) (o : List ℕ) → IsListed pdu → HasChannel pdu → ((i : ℕ) → RowHolds o (layout pdu) i) → read_as (field_of o 0 8) o ≡ Some pdu
+read-rows : (pdu : Pdu) (o : List ℕ) → IsListed pdu → HasChannel pdu → ((i : ℕ) → RowHolds o (layout pdu) i) →
+    read_as (field_of o 0 8) o ≡ Some pdu
 unfolding layout IsListed HasChannel read_as
 read-rows (Aloha sync version offset active mask function nrand_wait register backoff system address) o listed may r =
-    ap (λ n. read_as n o) (r 0) ∙ (λ i. Some (Aloha (bit-read o 18 sync (r 3) i) (r 4 i) (bit-read o 22 offset (r 5) i) (bit-read o 23 active (r 6) i) (r 7 i) (r 8 i) (r 9 i) (bit-read o 35 register (r 10) i) (r 11 i) (r 12 i) (r 13 i)))
+    ap (λ n. read_as n o) (r 0) ∙ (λ i. Some
+    (Aloha (bit-read o 18 sync (r 3) i) (r 4 i) (bit-read o 22 offset (r 5) i) (bit-read o 23 active (r 6) i) (r 7 i) (r 8 i) (r 9 i)
+    (bit-read o 35 register (r 10) i) (r 11 i) (r 12 i) (r 13 i)))
 read-rows (Ahoy options group kind called calling) o listed may r =
     ap (λ n. read_as n o) (r 0) ∙ (λ i. Some (Ahoy (r 2 i) (bit-read o 25 group (r 4) i) (r 6 i) (r 7 i) (r 8 i)))
 read-rows (Random options flags kind target source) o listed may r =
@@ -61,13 +66,17 @@ read-rows (Ackd info reason spare target additional) o listed may r =
 read-rows (Acku info reason spare target additional) o listed may r =
     ap (λ n. read_as n o) (r 0) ∙ (λ i. Some (Acku (r 2 i) (r 3 i) (bit-read o 31 spare (r 4) i) (r 5 i) (r 6 i)))
 read-rows (Clear lpcn group target source) o listed may r =
-    ap (λ n. read_as n o) (r 0) ∙ (λ i. option_map (λ l. Clear l (bit-read o 31 group (r 4) i) (r 5 i) (r 6 i)) (channel-is (field_of o 16 12) lpcn (r 2) may i))
+    ap (λ n. read_as n o) (r 0) ∙ (λ i. option_map (λ l. Clear l (bit-read o 31 group (r 4) i) (r 5 i) (r 6 i))
+    (channel-is (field_of o 16 12) lpcn (r 2) may i))
 read-rows (PvGrant lpcn slot target source) o listed may r =
-    ap (λ n. read_as n o) (r 0) ∙ (λ i. option_map (λ l. PvGrant l (r 3 i) (r 5 i) (r 6 i)) (channel-is (field_of o 16 12) lpcn (r 2) may i))
+    ap (λ n. read_as n o) (r 0) ∙ (λ i. option_map (λ l. PvGrant l (r 3 i) (r 5 i) (r 6 i))
+    (channel-is (field_of o 16 12) lpcn (r 2) may i))
 read-rows (TvGrant lpcn slot late target source) o listed may r =
-    ap (λ n. read_as n o) (r 0) ∙ (λ i. option_map (λ l. TvGrant l (r 3 i) (bit-read o 29 late (r 4) i) (r 6 i) (r 7 i)) (channel-is (field_of o 16 12) lpcn (r 2) may i))
+    ap (λ n. read_as n o) (r 0) ∙ (λ i. option_map (λ l. TvGrant l (r 3 i) (bit-read o 29 late (r 4) i) (r 6 i) (r 7 i))
+    (channel-is (field_of o 16 12) lpcn (r 2) may i))
 read-rows (Move register backoff lpcn) o listed may r =
-    ap (λ n. read_as n o) (r 0) ∙ (λ i. option_map (λ l. Move (bit-read o 35 register (r 3) i) (r 4 i) l) (channel-is (field_of o 44 12) lpcn (r 6) may i))
+    ap (λ n. read_as n o) (r 0) ∙ (λ i. option_map (λ l. Move (bit-read o 35 register (r 3) i) (r 4 i) l)
+    (channel-is (field_of o 44 12) lpcn (r 6) may i))
 read-rows (Other octets) o listed may r = absurd listed
 
 -- octets in which a PDU is laid out are read as that PDU

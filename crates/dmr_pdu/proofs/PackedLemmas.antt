@@ -44,7 +44,8 @@ bit_of_octet n j k lt =
     let eight : 8 ≡ 8 - k + k = omega arith in
     let fewer : 8 - k ≡ 7 - k + 1 = omega arith in
     let cut : m % 2 ^ 8 / 2 ^ k ≡ m / 2 ^ k % 2 ^ (8 - k) = ap (λ e. m % 2 ^ e / 2 ^ k) eight ∙ field_of m (8 - k) k in
-    let parity : m / 2 ^ k % 2 ^ (8 - k) % 2 ≡ m / 2 ^ k % 2 = ap (λ e. m / 2 ^ k % 2 ^ e % 2) fewer ∙ omega (arith, mod-pow-add (m / 2 ^ k) (7 - k) 1) in
+    let parity : m / 2 ^ k % 2 ^ (8 - k) % 2 ≡ m / 2 ^ k % 2 =
+    ap (λ e. m / 2 ^ k % 2 ^ e % 2) fewer ∙ omega (arith, mod-pow-add (m / 2 ^ k) (7 - k) 1) in
     ap (λ x. x % 2) cut ∙ parity ∙ ap (λ x. x % 2) (shr-shr n j k)
 
 -- the bits of a number in its octets
@@ -56,14 +57,16 @@ number_bit n k lt =
     ∙ ap (λ s. n / 2 ^ s % 2) at
 
 -- the number that eight octets spell is the field that they are
-pub field-number : (octets : List ℕ) (begin n : ℕ) → length (drop begin octets) ≡ 8 → ((k : ℕ) → get_or (drop begin octets) k 0 < 256) → n < 2 ^ 64 → n ≡ from_be_bytes w64 (drop begin octets)
+pub field-number : (octets : List ℕ) (begin n : ℕ) → length (drop begin octets) ≡ 8 → ((k : ℕ) → get_or (drop begin octets) k 0 < 256) →
+    n < 2 ^ 64 → n ≡ from_be_bytes w64 (drop begin octets)
     → n ≡ bits_of_field octets (8 * begin) 64
 field-number octets begin n len small fits is =
     sym (bits_value-of_number (octet_bit octets) (8 * begin) n 64 (λ k lt.
     let at : (8 * begin + k) / 8 ≡ begin + k / 8 = omega arith in
     let bit : 7 - (8 * begin + k) % 8 ≡ 7 - k % 8 = omega arith in
     let octet : get_or octets (begin + k / 8) 0 ≡ get_or (to_be_bytes w64 n) (k / 8) 0 =
-    sym (get_or-drop begin octets (k / 8) 0) ∙ ap (λ (bytes : List ℕ). get_or bytes (k / 8) 0) (sym (be_bytes_8 (drop begin octets) n len small is)) in
+    sym (get_or-drop begin octets (k / 8) 0) ∙ ap (λ (bytes : List ℕ). get_or bytes (k / 8) 0)
+    (sym (be_bytes_8 (drop begin octets) n len small is)) in
     rw (at, bit, octet) (ap (λ m. m == 1) (number_bit n k lt)))
     ∙ mod-eq_of_lt fits)
 
@@ -71,7 +74,8 @@ field-number octets begin n len small fits is =
 
 placed_above : (value width s k : ℕ) → value < 2 ^ width → width + s ≤ 64 → width + s ≤ k → bit_at (value * 2 ^ s % 2 ^ 64) k ≡ 0
 placed_above value width s k fits within above =
-    ap (λ n. bit_at n k) (shl_whole value width s 64 fits within) ∙ bit_at_above (value * 2 ^ s) (width + s) k (shl_below value width s fits) above
+    ap (λ n. bit_at n k) (shl_whole value width s 64 fits within) ∙ bit_at_above (value * 2 ^ s) (width + s) k
+    (shl_below value width s fits) above
 
 placed_in : (value width s k : ℕ) → value < 2 ^ width → width + s ≤ 64 → s ≤ k → bit_at (value * 2 ^ s % 2 ^ 64) k ≡ bit_at value (k - s)
 placed_in value width s k fits within low =
@@ -84,7 +88,8 @@ placed_below value width s k fits within below =
     ap (λ n. bit_at n k) (shl_whole value width s 64 fits within ∙ plain) ∙ bit_at_cat_low value s 0 k below ∙ bit_at-zero k
 
 -- rows from a bit on leave the bits before it as they are
-packed-before : (first : ℕ) (rows : List Row) (number packed : ℕ) → fills first rows ≡ true → 16 ≤ first → ArePacked number rows packed → (k : ℕ) → 80 - first ≤ k → bit_at packed k ≡ bit_at number k
+packed-before : (first : ℕ) (rows : List Row) (number packed : ℕ) → fills first rows ≡ true → 16 ≤ first → ArePacked number rows packed →
+    (k : ℕ) → 80 - first ≤ k → bit_at packed k ≡ bit_at number k
 packed-before first [] number packed e low are k before = ap (λ n. bit_at n k) (sym are)
 packed-before first (r ∷ rows) number packed e low are k before =
     let here = follows first r rows e in
@@ -96,7 +101,8 @@ packed-before first (r ∷ rows) number packed e low are k before =
 
 -- if octets have the bits of a number into which rows were put, the rows hold
 packed-hold : (octets : List ℕ) (packed : ℕ) → ((q : ℕ) → 16 ≤ q → q < 80 → octet_bit octets q ≡ (packed / 2 ^ (79 - q) % 2 == 1))
-    → (first : ℕ) (rows : List Row) (number : ℕ) → fills first rows ≡ true → 16 ≤ first → ArePacked number rows packed → ((k : ℕ) → k < 80 - first → bit_at number k ≡ 0) → Holds octets rows
+    → (first : ℕ) (rows : List Row) (number : ℕ) → fills first rows ≡ true → 16 ≤ first → ArePacked number rows packed →
+    ((k : ℕ) → k < 80 - first → bit_at number k ≡ 0) → Holds octets rows
 packed-hold octets packed bits first [] number e low are blank = tt
 packed-hold octets packed bits first (r ∷ rows) number e low are blank =
     let here = follows first r rows e in
@@ -109,7 +115,8 @@ packed-hold octets packed bits first (r ∷ rows) number e low are blank =
           let at : place - shift ≡ r.0.width - 1 - k = omega (arith, here.starts) in
           bits (r.0.first + k) (omega (arith, here.starts)) (omega (arith, here.starts))
           ∙ ap (λ n. n == 1) (
-          packed-before (first + r.0.width) rows (bit_or number placed) packed here.rest (omega arith) are.1 place (omega (arith, here.starts))
+          packed-before (first + r.0.width) rows (bit_or number placed) packed here.rest (omega arith) are.1 place
+          (omega (arith, here.starts))
           ∙ bit_at_or number placed place
           ∙ omega (arith, blank place (omega (arith, here.starts)))
           ∙ placed_in r.1 r.0.width shift place are.0 within (omega (arith, here.starts))
@@ -122,22 +129,27 @@ packed-hold octets packed bits first (r ∷ rows) number e low are blank =
 
 -- a PDU is laid out in octets that have its opcode, 0, and its number
 has_number-laid_out : (octets : List ℕ) (opcode n : ℕ) → bits_of_field octets 0 8 ≡ opcode → bits_of_field octets 8 8 ≡ 0
-    → ((q : ℕ) → 16 ≤ q → q < 80 → octet_bit octets q ≡ (n / 2 ^ (79 - q) % 2 == 1)) → (pdu : Pdu) → HasNumber pdu opcode n → IsLaidOut pdu octets
+    → ((q : ℕ) → 16 ≤ q → q < 80 → octet_bit octets q ≡ (n / 2 ^ (79 - q) % 2 == 1)) → (pdu : Pdu) → HasNumber pdu opcode n →
+    IsLaidOut pdu octets
 has_number-laid_out octets opcode n first second bits pdu is =
     let rows : List Row = layout_row 0 8 opcode ∷ layout_row 8 8 0 ∷ drop 2 (layout pdu) in
-    let begins : rows ≡ layout pdu = ap (λ (firsts : List Row). firsts ++ drop 2 (layout pdu)) (sym is.begins) ∙ take-append-drop 2 (layout pdu) in
+    let begins : rows ≡ layout pdu =
+    ap (λ (firsts : List Row). firsts ++ drop 2 (layout pdu)) (sym is.begins) ∙ take-append-drop 2 (layout pdu) in
     let whole : fills 0 rows ≡ true = ap (fills 0) begins ∙ layout-fills pdu is.listed in
-    let hold : Holds octets rows = (first, (second, packed-hold octets n bits 16 (drop 2 (layout pdu)) 0 whole (omega arith) is.rows (λ k lt. bit_at-zero k))) in
+    let hold : Holds octets rows =
+    (first, (second, packed-hold octets n bits 16 (drop 2 (layout pdu)) 0 whole (omega arith) is.rows (λ k lt. bit_at-zero k))) in
     record { listed = is.listed; rows = subst (Holds octets) begins hold; channel = is.channel }
 
 -- that is, in octets of which octet 1 is 0 and the rest spells its number
-pub number-laid_out : (octets : List ℕ) (n : ℕ) → get_or octets 1 0 ≡ 0 → bits_of_field octets 16 64 ≡ n → (pdu : Pdu) → HasNumber pdu (bits_of_field octets 0 8) n → IsLaidOut pdu octets
+pub number-laid_out : (octets : List ℕ) (n : ℕ) → get_or octets 1 0 ≡ 0 → bits_of_field octets 16 64 ≡ n → (pdu : Pdu) →
+    HasNumber pdu (bits_of_field octets 0 8) n → IsLaidOut pdu octets
 number-laid_out octets n zero_octet number pdu is =
     has_number-laid_out octets (bits_of_field octets 0 8) n refl (octet-field octets 1 (omega (arith, zero_octet)) ∙ zero_octet)
     (λ q low high.
     let at : 16 + (q - 16) ≡ q = omega arith in
     let shift : 64 - 1 - (q - 16) ≡ 79 - q = omega arith in
-    ap (octet_bit octets) (sym at) ∙ sym (bits_value-bit (octet_bit octets) 16 64 (q - 16) (omega arith)) ∙ ap (λ s. bits_of_field octets 16 64 / 2 ^ s % 2 == 1) shift
+    ap (octet_bit octets) (sym at) ∙ sym (bits_value-bit (octet_bit octets) 16 64 (q - 16) (omega arith))
+    ∙ ap (λ s. bits_of_field octets 16 64 / 2 ^ s % 2 == 1) shift
     ∙ ap (λ m. m / 2 ^ (79 - q) % 2 == 1) number) pdu is
 
 -- an octet, 0, and a number
@@ -175,7 +187,8 @@ module _ (opcode n : ℕ) (small : opcode < 256) where
   spelled-laid_out pdu is = has_number-laid_out (opcode ∷ 0 ∷ to_be_bytes w64 n) opcode n spelled-opcode spelled-zero spelled-bit pdu is
 
   pub spelled-is : (octets : List ℕ) → octets ≡ opcode ∷ 0 ∷ to_be_bytes w64 n → (pdu : Pdu) → HasNumber pdu opcode n → SpellsPdu pdu octets
-  spelled-is octets same pdu is = subst (SpellsPdu pdu) (sym same) (spells-laid_out pdu (opcode ∷ 0 ∷ to_be_bytes w64 n) (spelled-laid_out pdu is))
+  spelled-is octets same pdu is =
+      subst (SpellsPdu pdu) (sym same) (spells-laid_out pdu (opcode ∷ 0 ∷ to_be_bytes w64 n) (spelled-laid_out pdu is))
 
   spelled-number : n < 2 ^ 64 → bits_of_field (opcode ∷ 0 ∷ to_be_bytes w64 n) 16 64 ≡ n
   spelled-number fits =
@@ -185,7 +198,9 @@ module _ (opcode n : ℕ) (small : opcode < 256) where
       ∙ mod-eq_of_lt fits
 
   -- and it is laid out in no other octets
-  pub has_number-octets : n < 2 ^ 64 → (octets : List ℕ) → IsOctets 10 octets → (pdu : Pdu) → HasNumber pdu opcode n → IsLaidOut pdu octets → (get_or octets 1 0 ≡ 0) × (bits_of_field octets 16 64 ≡ n)
+  pub has_number-octets : n < 2 ^ 64 → (octets : List ℕ) → IsOctets 10 octets → (pdu : Pdu) → HasNumber pdu opcode n →
+      IsLaidOut pdu octets → (get_or octets 1 0 ≡ 0) × (bits_of_field octets 16 64 ≡ n)
   has_number-octets fits octets is_octets pdu has is =
-      let same : octets ≡ opcode ∷ 0 ∷ to_be_bytes w64 n = laid_out_alone pdu octets (opcode ∷ 0 ∷ to_be_bytes w64 n) is_octets spelled-octets is (spelled-laid_out pdu has) in
+      let same : octets ≡ opcode ∷ 0 ∷ to_be_bytes w64 n =
+      laid_out_alone pdu octets (opcode ∷ 0 ∷ to_be_bytes w64 n) is_octets spelled-octets is (spelled-laid_out pdu has) in
       (ap (λ (o : List ℕ). get_or o 1 0) same, ap (λ (o : List ℕ). bits_of_field o 16 64) same ∙ spelled-number fits)

@@ -39,18 +39,22 @@ fills-le first [] e = omega (arith, eqb-true first 80 e)
 fills-le first (r ∷ rows) e = omega (arith, fills-le (first + r.0.width) rows (follows first r rows e).rest)
 
 -- rows that fill the octets determine each bit
-pub rows_bits : (first : ℕ) (rows : List Row) (a b : List ℕ) → fills first rows ≡ true → Holds a rows → Holds b rows → (q : ℕ) → first ≤ q → q < 80 → octet_bit a q ≡ octet_bit b q
+pub rows_bits : (first : ℕ) (rows : List Row) (a b : List ℕ) → fills first rows ≡ true → Holds a rows → Holds b rows → (q : ℕ) → first ≤ q →
+    q < 80 → octet_bit a q ≡ octet_bit b q
 rows_bits first [] a b e a_holds b_holds q low high = absurd (omega (arith, eqb-true first 80 e))
 rows_bits first (r ∷ rows) a b e a_holds b_holds q low high =
     let here = follows first r rows e in
     ⊎_elim
     (λ (inside : q < first + r.0.width).
     let at : r.0.first + (q - first) ≡ q = omega (arith, here.starts) in
-    let same : octet_bit a (r.0.first + (q - first)) ≡ octet_bit b (r.0.first + (q - first)) = bits_value-injective (octet_bit a) (octet_bit b) r.0.first r.0.width (a_holds.0 ∙ sym b_holds.0) (q - first) (omega arith) in
+    let same : octet_bit a (r.0.first + (q - first)) ≡ octet_bit b (r.0.first + (q - first)) =
+    bits_value-injective (octet_bit a) (octet_bit b) r.0.first r.0.width (a_holds.0 ∙ sym b_holds.0) (q - first) (omega arith) in
     ap (octet_bit a) (sym at) ∙ same ∙ ap (octet_bit b) at)
     (λ (behind : first + r.0.width ≤ q). rows_bits (first + r.0.width) rows a b here.rest a_holds.1 b_holds.1 q behind high)
     (cases_lt q (first + r.0.width))
 
 -- rows that fill the octets hold in only one list of octets
-pub rows_determine : (rows : List Row) (a b : List ℕ) → fills 0 rows ≡ true → IsOctets 10 a → IsOctets 10 b → Holds a rows → Holds b rows → a ≡ b
-rows_determine rows a b e a_octets b_octets a_holds b_holds = octets-same 10 a b a_octets b_octets (λ q lt. rows_bits 0 rows a b e a_holds b_holds q (omega arith) (omega arith))
+pub rows_determine : (rows : List Row) (a b : List ℕ) → fills 0 rows ≡ true → IsOctets 10 a → IsOctets 10 b → Holds a rows → Holds b rows →
+    a ≡ b
+rows_determine rows a b e a_octets b_octets a_holds b_holds =
+    octets-same 10 a b a_octets b_octets (λ q lt. rows_bits 0 rows a b e a_holds b_holds q (omega arith) (omega arith))

@@ -151,7 +151,8 @@ granted_count lists outboxes slot = either (row_with lists.carriers slot.carrier
     waiting = box outboxes (control_slot lists)
 
     either : (found : Option CarrierRow)
-        → option_map_or (λ (row : CarrierRow). list_any (names row.lpcn slot.slot) waiting) found false ≡ nat_lt 0 (counted found slot waiting)
+        → option_map_or (λ (row : CarrierRow). list_any (names row.lpcn slot.slot) waiting) found false ≡ nat_lt 0
+        (counted found slot waiting)
     either None = refl
     either (Some row) = some_count (names row.lpcn slot.slot) waiting
 
@@ -246,14 +247,16 @@ module _ (lists : ListSection) (are_lists : IsListSection lists) (outboxes : Lis
       either true = named_granted lists are_lists s pdu
       either false = refl
 
-  pub grants_queued : (s : Slot) → grants_of lists (outboxes_with_pdu outboxes slot pdu) s ≡ grants_of lists outboxes s + cond (is_this granted s) 1 0
+  pub grants_queued : (s : Slot) → grants_of lists (outboxes_with_pdu outboxes slot pdu) s ≡ grants_of lists outboxes s + cond
+      (is_this granted s) 1 0
   grants_queued s = either (is_control lists slot) refl ∙ ap (λ b. grants_of lists outboxes s + cond b 1 0) (changes s)
     where
       either : (b : Bool) → is_control lists slot ≡ b → grants_of lists (outboxes_with_pdu outboxes slot pdu) s
           ≡ grants_of lists outboxes s + cond (b && named (row s) s pdu) 1 0
       either true e =
           let there : box (outboxes_with_pdu outboxes slot pdu) (control_slot lists) ≡ box outboxes (control_slot lists) ++ pdu ∷ [] =
-          control_box lists outboxes slot _ e within ∙ ap (λ (t : Slot). box outboxes t ++ pdu ∷ []) (control_is lists outboxes slot [] e) in
+          control_box lists outboxes slot _ e within ∙ ap (λ (t : Slot). box outboxes t ++ pdu ∷ [])
+          (control_is lists outboxes slot [] e) in
           ap (counted (row s) s) there ∙ in_more (row s) s (box outboxes (control_slot lists)) pdu
       either false e = ap (counted (row s) s) (other_box lists outboxes slot _ is.1 e) ∙ omega arith
 
@@ -268,7 +271,8 @@ module _ (lists : ListSection) (are_lists : IsListSection lists) (outboxes : Lis
           let control = control_is lists outboxes slot [] e in
           let there : box (outboxes_after_send outboxes slot) (control_slot lists) ≡ drop 1 (box outboxes (control_slot lists)) =
           control_box lists outboxes slot _ e within ∙ ap (λ (t : Slot). drop 1 (box outboxes t)) control in
-          in_less (row s) s (box outboxes (control_slot lists)) pdu (subst (λ (t : Slot). slice_get (box outboxes t) 0 ≡ Some pdu) control first)
+          in_less (row s) s (box outboxes (control_slot lists)) pdu
+          (subst (λ (t : Slot). slice_get (box outboxes t) 0 ≡ Some pdu) control first)
           ∙ ap (λ (xs : List Pdu). counted (row s) s xs + cond (named (row s) s pdu) 1 0) (sym there)
       either false e = ap (counted (row s) s) (sym (other_box lists outboxes slot (drop 1 (box outboxes slot)) is.1 e)) ∙ omega arith
 

@@ -19,7 +19,8 @@ take_parts (suc n) (x ∷ xs) ys short =
     ap (λ octets. x ∷ octets) (take_parts n xs ys (omega arith) ∙ ap (λ k. xs ++ take k ys) same)
 
 -- the same, if as many are added as there are and as fit
-pub take_added : (n room : ℕ) (xs ys : List ℕ) → room ≡ n - length xs → length xs ≤ n → xs ++ take (min room (length ys)) ys ≡ take n (xs ++ ys)
+pub take_added : (n room : ℕ) (xs ys : List ℕ) → room ≡ n - length xs → length xs ≤ n →
+    xs ++ take (min room (length ys)) ys ≡ take n (xs ++ ys)
 take_added n room xs ys left short =
     ap (λ octets. xs ++ octets) (take_min room ys ∙ ap (λ k. take k ys) left) ∙ sym (take_parts n xs ys short)
 
@@ -29,7 +30,8 @@ at_ok (Ok x) succeeds holds = holds
 at_ok (Err e) fails holds = absurd (cc)
 
 -- octets of which a frame was read are a HELLO if the frame is one
-hello_read : (octets : List ℕ) (r : Option FrameIn) → IfSome r (λ f. IsFrame V1 f × (octets ≡ spelling f)) → IsTrue (is_hello_frame r) → IsHello octets
+hello_read : (octets : List ℕ) (r : Option FrameIn) → IfSome r (λ f. IsFrame V1 f × (octets ≡ spelling f)) → IsTrue (is_hello_frame r) →
+    IsHello octets
 hello_read octets (Some (Hello version carrier lpcn)) found holds = record {
   version = version;
   carrier = carrier;
@@ -61,13 +63,15 @@ served_within greatest octet served =
       | inr other ↦ elim (cases_Bool (octet == 2 && is_since V2 greatest)) [
         | inl second ↦ let two : octet ≡ 2 = eqb-true octet 2 (and_parts (octet == 2) (is_since V2 greatest) second).0 in omega (arith, two)
         | inr none ↦
-            let unnamed : version_named greatest octet ≡ None = cond-false (octet == 1) (Some V1) _ other ∙ cond-false _ (Some V2) None none in
+            let unnamed : version_named greatest octet ≡ None =
+            cond-false (octet == 1) (Some V1) _ other ∙ cond-false _ (Some V2) None none in
             absurd (both_ways (is_some (version_named greatest octet)) (ap is_some unnamed) served)
       ]
     ]
 
 -- octets of which a frame was read are a HELLO for a carrier if the frame is one
-hello_for_read : (greatest : Version) (number channel : ℕ) (octets : List ℕ) (r : Option FrameIn) → IfSome r (λ f. IsFrame V1 f × (octets ≡ spelling f))
+hello_for_read : (greatest : Version) (number channel : ℕ) (octets : List ℕ) (r : Option FrameIn) →
+    IfSome r (λ f. IsFrame V1 f × (octets ≡ spelling f))
     → IsTrue (is_frame_for greatest number channel r) → IsHelloFor greatest number channel octets
 hello_for_read greatest number channel octets (Some (Hello version carrier lpcn)) found holds =
     let served = is_some (version_named greatest version) in
@@ -94,7 +98,8 @@ hello_for_from_frame greatest number channel octets r small fits found only = (
   hello_for_read greatest number channel octets r found,
   λ (h : IsHelloFor greatest number channel octets).
       let within : number < 256 = omega (arith, small) in
-      let whole : r ≡ Some (Hello h.version number channel) = only (Hello h.version number channel) (served_within greatest h.version h.served, within, fits) h.spelled in
+      let whole : r ≡ Some (Hello h.version number channel) =
+      only (Hello h.version number channel) (served_within greatest h.version h.served, within, fits) h.spelled in
       ap (is_frame_for greatest number channel) whole
       ∙ and_from _ _ (and_from _ _ h.served (eq-eqb number number refl)) (eq-eqb channel channel refl),
 )

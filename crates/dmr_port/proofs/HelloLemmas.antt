@@ -25,7 +25,8 @@ hello_begins : (kind count version carrier high low : ℕ) → IsTrue (begins_so
     → IsHello (kind ∷ count ∷ version ∷ carrier ∷ high ∷ low ∷ [])
 unfolding begins_so
 hello_begins kind count version carrier high low begins =
-    let parts = and_parts ((kind == 1) && (count == 4)) ((nat_lt version 256 && nat_lt carrier 256) && (nat_lt high 256 && nat_lt low 256)) begins in
+    let parts = and_parts ((kind == 1) && (count == 4)) ((nat_lt version 256 && nat_lt carrier 256) && (nat_lt high 256 && nat_lt low 256))
+    begins in
     let front = and_parts (kind == 1) (count == 4) parts.0 in
     let rest = and_parts (nat_lt version 256 && nat_lt carrier 256) (nat_lt high 256 && nat_lt low 256) parts.1 in
     let who = and_parts (nat_lt version 256) (nat_lt carrier 256) rest.0 in

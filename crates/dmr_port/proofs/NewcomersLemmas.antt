@@ -61,7 +61,8 @@ none_claims (Carrier number lpcn) greatest claim = let spelled = claim.spelled i
 none_claims Console greatest claim = claim
 
 -- a step that the newcomers and their octets take together
-known_on : (settings : PortSettings) (newcomers newcomers' : List Newcomer) (shown : Option (List (List ℕ))) (step : List (List ℕ) → List (List ℕ))
+known_on : (settings : PortSettings) (newcomers newcomers' : List Newcomer) (shown : Option (List (List ℕ)))
+    (step : List (List ℕ) → List (List ℕ))
     → ((octets : List (List ℕ)) → AllZip (IsKnownBy settings) newcomers octets → AllZip (IsKnownBy settings) newcomers' (step octets))
     → AreKnown settings newcomers shown → AreKnown settings newcomers' (option_map step shown)
 known_on settings newcomers newcomers' None step goes known = record { known = λ octets is. absurd (cc) }
@@ -73,18 +74,21 @@ known_on settings newcomers newcomers' (Some before) step goes known = record {
 }
 
 -- nothing more was shown
-pub known_at : (settings : PortSettings) (newcomers : List Newcomer) (shown shown' : Option (List (List ℕ))) → shown' ≡ shown → AreKnown settings newcomers shown → AreKnown settings newcomers shown'
+pub known_at : (settings : PortSettings) (newcomers : List Newcomer) (shown shown' : Option (List (List ℕ))) → shown' ≡ shown →
+    AreKnown settings newcomers shown → AreKnown settings newcomers shown'
 known_at settings newcomers shown shown' is known = subst (AreKnown settings newcomers) (sym is) known
 
 -- the sockets kept their newcomers
-pub newcomers_kept : (settings : PortSettings) (room : WaitingRoom) (old new : SocketState) → KeepsNewcomers old new → HasNewcomersOf settings room old → HasNewcomersOf settings room new
+pub newcomers_kept : (settings : PortSettings) (room : WaitingRoom) (old new : SocketState) → KeepsNewcomers old new →
+    HasNewcomersOf settings room old → HasNewcomersOf settings room new
 newcomers_kept settings room old new keeps has = record {
   all = keeps.waiting ∙ has.all;
   known = known_at settings room.newcomers.items old.shown new.shown keeps.shown has.known;
 }
 
 -- there are none
-pub known_none : (settings : PortSettings) (shown : Option (List (List ℕ))) (waiting : ℕ) → IfSome shown (λ octets. length octets ≡ waiting) → waiting ≡ 0 → AreKnown settings [] shown
+pub known_none : (settings : PortSettings) (shown : Option (List (List ℕ))) (waiting : ℕ) →
+    IfSome shown (λ octets. length octets ≡ waiting) → waiting ≡ 0 → AreKnown settings [] shown
 known_none settings None waiting all none = record { known = λ octets is. absurd (cc) }
 known_none settings (Some before) waiting all none = record {
   known = λ octets is.
@@ -93,12 +97,15 @@ known_none settings (Some before) waiting all none = record {
 }
 
 -- one came, and has shown nothing
-pub known_added : (settings : PortSettings) (newcomers newcomers' : List Newcomer) (newcomer : Newcomer) (a : Accepted) (shown shown' : Option (List (List ℕ)))
-    → newcomers' ≡ newcomers ++ newcomer ∷ [] → newcomer.has_hello ≡ false → a ≡ accepted.Came newcomer.from → shown' ≡ shown_after_accept a shown
+pub known_added : (settings : PortSettings) (newcomers newcomers' : List Newcomer) (newcomer : Newcomer) (a : Accepted)
+    (shown shown' : Option (List (List ℕ)))
+    → newcomers' ≡ newcomers ++ newcomer ∷ [] → newcomer.has_hello ≡ false → a ≡ accepted.Came newcomer.from →
+    shown' ≡ shown_after_accept a shown
     → AreKnown settings newcomers shown → AreKnown settings newcomers' shown'
 known_added settings newcomers newcomers' newcomer a shown shown' added new came is known =
     let P : List Newcomer → Type 0 = λ all. AreKnown settings all shown' in
-    let by : IsKnownBy settings newcomer [] = (λ on. absurd (false≢true (sym new ∙ on)), λ claim. absurd (none_claims settings.whose settings.greatest claim)) in
+    let by : IsKnownBy settings newcomer [] =
+    (λ on. absurd (false≢true (sym new ∙ on)), λ claim. absurd (none_claims settings.whose settings.greatest claim)) in
     subst P (sym added)
     (known_at settings (newcomers ++ newcomer ∷ []) _ shown' (is ∙ ap (λ one. shown_after_accept one shown) came)
     (known_on settings newcomers (newcomers ++ newcomer ∷ []) shown (λ octets. octets ++ [] ∷ [])
@@ -106,7 +113,8 @@ known_added settings newcomers newcomers' newcomer a shown shown' added new came
 
 -- the one at a place is gone
 pub known_removed : (settings : PortSettings) (newcomers newcomers' : List Newcomer) (place : ℕ) (shown shown' : Option (List (List ℕ)))
-    → newcomers' ≡ remove newcomers place → shown' ≡ shown_without place shown → AreKnown settings newcomers shown → AreKnown settings newcomers' shown'
+    → newcomers' ≡ remove newcomers place → shown' ≡ shown_without place shown → AreKnown settings newcomers shown →
+    AreKnown settings newcomers' shown'
 known_removed settings newcomers newcomers' place shown shown' removed is known =
     let P : List Newcomer → Type 0 = λ all. AreKnown settings all shown' in
     subst P (sym removed)
@@ -115,8 +123,10 @@ known_removed settings newcomers newcomers' place shown shown' removed is known 
     (λ octets zip. zip_removed (IsKnownBy settings) newcomers octets place zip) known))
 
 -- a look at the one at a place
-looked : (settings : PortSettings) (newcomers : List Newcomer) (newcomer known : Newcomer) (place : ℕ) (peeked : Peeked) (first : List ℕ) (shown : Option (List (List ℕ)))
-    → newcomer ≡ slice_index_or newcomers place newcomer → IsKnownAs settings newcomer peeked first (Some known) → AreKnown settings newcomers shown
+looked : (settings : PortSettings) (newcomers : List Newcomer) (newcomer known : Newcomer) (place : ℕ) (peeked : Peeked) (first : List ℕ)
+    (shown : Option (List (List ℕ)))
+    → newcomer ≡ slice_index_or newcomers place newcomer → IsKnownAs settings newcomer peeked first (Some known) →
+    AreKnown settings newcomers shown
     → AreKnown settings (slice_set newcomers place known) (shown_after_peek place peeked first shown)
 looked settings newcomers newcomer known place (peeked.Octets n) first shown at sent are =
     known_on settings newcomers (slice_set newcomers place known) shown (λ octets. slice_set octets place (take n first))
@@ -127,22 +137,27 @@ looked settings newcomers newcomer known place peeked.Nothing first shown at sam
     subst P (sym (ap (slice_set newcomers place) one ∙ set_itself newcomers place newcomer at)) are
 looked settings newcomers newcomer known place peeked.Ended first shown at none are = absurd (cc)
 
-pub known_looked : (settings : PortSettings) (newcomers newcomers' : List Newcomer) (newcomer known : Newcomer) (place : ℕ) (peeked : Peeked) (first : List ℕ) (shown shown' : Option (List (List ℕ)))
-    → newcomers' ≡ slice_set newcomers place known → newcomer ≡ slice_index_or newcomers place newcomer → shown' ≡ shown_after_peek place peeked first shown
+pub known_looked : (settings : PortSettings) (newcomers newcomers' : List Newcomer) (newcomer known : Newcomer) (place : ℕ)
+    (peeked : Peeked) (first : List ℕ) (shown shown' : Option (List (List ℕ)))
+    → newcomers' ≡ slice_set newcomers place known → newcomer ≡ slice_index_or newcomers place newcomer →
+    shown' ≡ shown_after_peek place peeked first shown
     → IsKnownAs settings newcomer peeked first (Some known) → AreKnown settings newcomers shown → AreKnown settings newcomers' shown'
 known_looked settings newcomers newcomers' newcomer known place peeked first shown shown' set at is sent are =
     let P : List Newcomer → Type 0 = λ all. AreKnown settings all shown' in
-    subst P (sym set) (known_at settings (slice_set newcomers place known) _ shown' is (looked settings newcomers newcomer known place peeked first shown at sent are))
+    subst P (sym set) (known_at settings (slice_set newcomers place known) _ shown' is
+    (looked settings newcomers newcomer known place peeked first shown at sent are))
 
 -- a look at one whose connection has ended shows nothing
-ended_shows_none : (settings : PortSettings) (newcomer : Newcomer) (place : ℕ) (peeked : Peeked) (first : List ℕ) (shown : Option (List (List ℕ))) → IsKnownAs settings newcomer peeked first None
+ended_shows_none : (settings : PortSettings) (newcomer : Newcomer) (place : ℕ) (peeked : Peeked) (first : List ℕ)
+    (shown : Option (List (List ℕ))) → IsKnownAs settings newcomer peeked first None
     → shown_after_peek place peeked first shown ≡ shown
 ended_shows_none settings newcomer place (peeked.Octets n) first shown none = absurd none
 ended_shows_none settings newcomer place peeked.Nothing first shown none = absurd (cc)
 ended_shows_none settings newcomer place peeked.Ended first shown none = refl
 
 -- the one at a place was looked at, has ended, and is gone
-pub known_ended : (settings : PortSettings) (newcomers newcomers' : List Newcomer) (newcomer : Newcomer) (place : ℕ) (peeked : Peeked) (first : List ℕ) (shown mid shown' : Option (List (List ℕ)))
+pub known_ended : (settings : PortSettings) (newcomers newcomers' : List Newcomer) (newcomer : Newcomer) (place : ℕ) (peeked : Peeked)
+    (first : List ℕ) (shown mid shown' : Option (List (List ℕ)))
     → newcomers' ≡ remove newcomers place → mid ≡ shown_after_peek place peeked first shown → shown' ≡ shown_without place mid
     → IsKnownAs settings newcomer peeked first None → AreKnown settings newcomers shown → AreKnown settings newcomers' shown'
 known_ended settings newcomers newcomers' newcomer place peeked first shown mid shown' removed looks is none are =
@@ -180,11 +195,13 @@ one_claims settings (n ∷ newcomers) (o ∷ octets) zip =
       ],
     )
 
-pub claimed : (settings : PortSettings) (newcomers : List Newcomer) (shown : Option (List (List ℕ))) (place : Option ℕ) (is_claimed : Bool) → AreKnown settings newcomers shown
+pub claimed : (settings : PortSettings) (newcomers : List Newcomer) (shown : Option (List (List ℕ))) (place : Option ℕ)
+    (is_claimed : Bool) → AreKnown settings newcomers shown
     → place ≡ place_of_claimant newcomers → is_claimed ≡ is_some place → IsClaimedAs settings shown is_claimed
 claimed settings newcomers shown place is_claimed known at is =
     let test : Newcomer → Bool = λ n. n.has_hello in
-    let same : is_claimed ≡ list_any test newcomers = is ∙ ap is_some (at ∙ position_from-zero test newcomers) ∙ has_first test 0 newcomers in
+    let same : is_claimed ≡ list_any test newcomers =
+    is ∙ ap is_some (at ∙ position_from-zero test newcomers) ∙ has_first test 0 newcomers in
     record {
       claim = λ octets some.
           let P : Bool → Type 0 = λ b. IsTrue b ↔ IsClaimed settings octets in

@@ -17,7 +17,8 @@ pub passes_nothing : (log : Option (List Answer)) (waiting : List ℕ) → Passe
 passes_nothing log waiting = record { sent = []; carries = carries_nothing log; split = append-nil waiting }
 
 -- one step after another
-pub passes_on : (first second third : Option (List Answer)) (one two three : List ℕ) → PassesOctets first one [] second two → PassesOctets second two [] third three → PassesOctets first one [] third three
+pub passes_on : (first second third : Option (List Answer)) (one two three : List ℕ) → PassesOctets first one [] second two →
+    PassesOctets second two [] third three → PassesOctets first one [] third three
 passes_on first second third one two three before after = record {
   sent = before.sent ++ after.sent;
   carries = carries_on first second third [] before.sent [] after.sent before.carries after.carries;
@@ -44,7 +45,8 @@ passes_front log log' items front rest count whole within logged =
     }
 
 -- if a connection takes what is written at once
-pub passes_written : (log log' : Option (List Answer)) (waiting octets : List ℕ) (put : Put) → waiting ≡ [] → Reports log (of_write put octets ∷ []) log' → PassesOctets log waiting (taken_by put octets) log' waiting
+pub passes_written : (log log' : Option (List Answer)) (waiting octets : List ℕ) (put : Put) → waiting ≡ [] →
+    Reports log (of_write put octets ∷ []) log' → PassesOctets log waiting (taken_by put octets) log' waiting
 passes_written log log' waiting octets put none logged = record {
   sent = taken_by put octets;
   carries = carries_write log log' put octets logged;
@@ -61,13 +63,15 @@ none_kept (x ∷ waiting) empty holds is =
     let none : length (x ∷ waiting) ≡ 0 = eqb-true (length (x ∷ waiting)) 0 (sym is ∙ holds) in absurd (omega (arith, none))
 
 -- the same, by the test that none are kept
-pub passes_at_once : (log log' : Option (List Answer)) (waiting octets : List ℕ) (put : Put) (empty : Bool) → empty ≡ true → empty ≡ nat_eq (length waiting) 0
+pub passes_at_once : (log log' : Option (List Answer)) (waiting octets : List ℕ) (put : Put) (empty : Bool) → empty ≡ true →
+    empty ≡ nat_eq (length waiting) 0
     → Reports log (of_write put octets ∷ []) log' → PassesOctets log waiting (taken_by put octets) log' waiting
 passes_at_once log log' waiting octets put empty holds is logged =
     passes_written log log' waiting octets put (none_kept waiting empty holds is) logged
 
 -- if what is written is kept
-pub passes_kept : (log log' : Option (List Answer)) (waiting octets waiting' : List ℕ) → Carries log [] [] log' → waiting' ≡ waiting ++ octets → PassesOctets log waiting octets log' waiting'
+pub passes_kept : (log log' : Option (List Answer)) (waiting octets waiting' : List ℕ) → Carries log [] [] log' →
+    waiting' ≡ waiting ++ octets → PassesOctets log waiting octets log' waiting'
 passes_kept log log' waiting octets waiting' carries kept = record { sent = []; carries = carries; split = sym kept }
 
 -- a write leaves the first octets that came as they are

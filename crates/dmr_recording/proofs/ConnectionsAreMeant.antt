@@ -25,19 +25,28 @@ use Rattle.dmr_recording.specs.Records.{quiet_connection}
 
 -- the laws of frames and of connections
 pub record ConnectionLaws : Type 0 where
-  pub frame : (table : FrameTable) (f : FrameIn) → IsFrame (version_of table) f → (frames_from (Open table []) (spelling f) ≡ f ∷ []) × (rest_after_octets (Open table []) (spelling f) ≡ Open (table_after table f) [])
-  pub cut : (rest : Rest) (a b : List ℕ) → (frames_from rest (a ++ b) ≡ frames_from rest a ++ frames_from (rest_after_octets rest a) b) × (rest_after_octets rest (a ++ b) ≡ rest_after_octets (rest_after_octets rest a) b)
-  pub opens : (who : CarrierIdentity) (octets : List ℕ) → meaning_of_octets who octets false ≡ notices_of_octets who (new_connection who) octets
+  pub frame : (table : FrameTable) (f : FrameIn) → IsFrame (version_of table) f → (frames_from (Open table []) (spelling f) ≡ f ∷ []) ×
+      (rest_after_octets (Open table []) (spelling f) ≡ Open (table_after table f) [])
+  pub cut : (rest : Rest) (a b : List ℕ) → (frames_from rest (a ++ b) ≡ frames_from rest a ++ frames_from (rest_after_octets rest a) b) ×
+      (rest_after_octets rest (a ++ b) ≡ rest_after_octets (rest_after_octets rest a) b)
+  pub opens : (who : CarrierIdentity) (octets : List ℕ) → meaning_of_octets who octets false ≡ notices_of_octets who
+      (new_connection who) octets
   pub left : (who : CarrierIdentity) (octets : List ℕ) → left_by_octets who octets ≡ connection_after_octets who (new_connection who) octets
-  pub in_two : (who : CarrierIdentity) (k : Connection) (a b : List ℕ) → notices_of_octets who k (a ++ b) ≡ notices_of_octets who k a ++ notices_of_octets who (connection_after_octets who k a) b
-  pub adds : (who : CarrierIdentity) (rs : List Record) (piece : Piece) → meaning_of_records who (records_after rs piece) ≡ meaning_of_records who rs ++ piece_produces who (left_by_records who rs) piece
-  pub leaves : (who : CarrierIdentity) (rs : List Record) (piece : Piece) → left_by_records who (records_after rs piece) ≡ piece_leaves who (left_by_records who rs) piece
+  pub in_two : (who : CarrierIdentity) (k : Connection) (a b : List ℕ) →
+      notices_of_octets who k (a ++ b) ≡ notices_of_octets who k a ++ notices_of_octets who (connection_after_octets who k a) b
+  pub adds : (who : CarrierIdentity) (rs : List Record) (piece : Piece) →
+      meaning_of_records who (records_after rs piece) ≡ meaning_of_records who rs ++ piece_produces who (left_by_records who rs) piece
+  pub leaves : (who : CarrierIdentity) (rs : List Record) (piece : Piece) →
+      left_by_records who (records_after rs piece) ≡ piece_leaves who (left_by_records who rs) piece
 
-meant_by : (who : CarrierIdentity) (octets : List ℕ) (frames : List FrameIn) (rest : Rest) → frames_from (no_octets who) octets ≡ frames → rest_after_octets (no_octets who) octets ≡ rest → meaning_of_octets who octets false ≡ meaning_of_frames who frames (is_stream_fault rest || false)
+meant_by : (who : CarrierIdentity) (octets : List ℕ) (frames : List FrameIn) (rest : Rest) → frames_from (no_octets who) octets ≡ frames →
+    rest_after_octets (no_octets who) octets ≡ rest → meaning_of_octets who octets false ≡ meaning_of_frames who frames
+    (is_stream_fault rest || false)
 unfolding meaning_of_octets
 meant_by who octets frames rest f r = (λ i. meaning_of_frames who (f i) (is_stream_fault (r i) || false))
 
-left_by : (who : CarrierIdentity) (octets : List ℕ) (frames : List FrameIn) (rest : Rest) → frames_from (no_octets who) octets ≡ frames → rest_after_octets (no_octets who) octets ≡ rest → left_by_octets who octets ≡ left_by_frames who frames rest
+left_by : (who : CarrierIdentity) (octets : List ℕ) (frames : List FrameIn) (rest : Rest) → frames_from (no_octets who) octets ≡ frames →
+    rest_after_octets (no_octets who) octets ≡ rest → left_by_octets who octets ≡ left_by_frames who frames rest
 unfolding left_by_octets
 left_by who octets frames rest f r = (λ i. left_by_frames who (f i) (r i))
 
@@ -114,7 +123,8 @@ module _ (laws : ConnectionLaws) (who : CarrierIdentity) (small : who.carrier < 
     both_mean : meaning_of_octets who both false ≡ Accepted who.carrier V1 ∷ happens ∷ []
     both_mean =
         meant_by who both (hello ∷ f ∷ []) first_rest both_frames both_rest
-        ∙ (λ i. if accepted i then Accepted who.carrier V1 ∷ while_up who.carrier (if quiet.fresh i then [] else f ∷ []) false else list_of_notice (refusal_of_first who hello))
+        ∙ (λ i. if accepted i then Accepted who.carrier V1 ∷ while_up who.carrier
+        (if quiet.fresh i then [] else f ∷ []) false else list_of_notice (refusal_of_first who hello))
         ∙ ap (λ (b : Bool). Accepted who.carrier V1 ∷ happens ∷ (if b then [] else [])) quiet.stays
 
     whole : Accepted who.carrier V1 ∷ happens ∷ [] ≡ Accepted who.carrier V1 ∷ notices_of_octets who quiet_connection (spelling f)
@@ -137,7 +147,9 @@ module _ (laws : ConnectionLaws) (who : CarrierIdentity) (small : who.carrier < 
 
 -- ---- records
 
-pub added : (laws : ConnectionLaws) (who : CarrierIdentity) (rs : List Record) (piece : Piece) → drop (length (meaning_of_records who rs)) (meaning_of_records who (records_after rs piece)) ≡ piece_produces who (left_by_records who rs) piece
+pub added : (laws : ConnectionLaws) (who : CarrierIdentity) (rs : List Record) (piece : Piece) →
+    drop (length (meaning_of_records who rs)) (meaning_of_records who (records_after rs piece)) ≡ piece_produces who
+    (left_by_records who rs) piece
 added laws who rs piece =
     ap (drop (length (meaning_of_records who rs))) (laws.adds who rs piece)
     ∙ drop_at (meaning_of_records who rs) (piece_produces who (left_by_records who rs) piece) (length (meaning_of_records who rs)) refl

@@ -36,7 +36,8 @@ use Rattle.dmr_recording.proofs.ConnectionsAreMeant.{ConnectionLaws, IsQuiet, ad
 
 -- ---- a carrier of the plan
 
-identity : (c : ℕ) (o : Option CarrierRow) (who : CarrierIdentity) (make : CarrierRow → CarrierIdentity) → ((row : CarrierRow) → (make row).carrier ≡ c) → ((row : CarrierRow) → (make row).lpcn ≡ row.lpcn) → option_map make o ≡ Some who
+identity : (c : ℕ) (o : Option CarrierRow) (who : CarrierIdentity) (make : CarrierRow → CarrierIdentity) →
+    ((row : CarrierRow) → (make row).carrier ≡ c) → ((row : CarrierRow) → (make row).lpcn ≡ row.lpcn) → option_map make o ≡ Some who
     → (who.carrier ≡ c) × (who.lpcn ≡ option_map_or (λ (row : CarrierRow). row.lpcn) o 0)
 identity c None who make number channel e = absurd (cc)
 identity c (Some row) who make number channel e =
@@ -44,7 +45,8 @@ identity c (Some row) who make number channel e =
     (sym (ap (λ (w : CarrierIdentity). w.carrier) same) ∙ number row, sym (ap (λ (w : CarrierIdentity). w.lpcn) same) ∙ channel row)
 
 pub who_is : (plan : Settings) (c : ℕ) (who : CarrierIdentity) → who_of plan c ≡ Some who → (who.carrier ≡ c) × (who.lpcn ≡ lpcn_of plan c)
-who_is plan c who is = identity c (row_with plan.lists.carriers c) who (λ (row : CarrierRow). record { carrier = c; lpcn = row.lpcn; greatest = greatest_of plan }) (λ row. refl) (λ row. refl) is
+who_is plan c who is = identity c (row_with plan.lists.carriers c) who
+    (λ (row : CarrierRow). record { carrier = c; lpcn = row.lpcn; greatest = greatest_of plan }) (λ row. refl) (λ row. refl) is
 
 pub some_who : (o : Option CarrierIdentity) → is_some o ≡ true → (who : CarrierIdentity) × (o ≡ Some who)
 some_who None e = absurd (cc)
@@ -53,13 +55,16 @@ some_who (Some who) e = (who, refl)
 -- ---- an input for a carrier
 
 -- the meaning of inputs, and of others after them
-pub all_mean-append : (plan : Settings) (past : Past) (is js : List Input) → all_mean plan past (is ++ js) ≡ all_mean plan past is ++ all_mean plan (all_past plan past is) js
+pub all_mean-append : (plan : Settings) (past : Past) (is js : List Input) →
+    all_mean plan past (is ++ js) ≡ all_mean plan past is ++ all_mean plan (all_past plan past is) js
 all_mean-append plan past [] js = refl
 all_mean-append plan past (i ∷ is) js =
     ap (λ (ns : List Notice). input_means plan past i ++ ns) (all_mean-append plan (input_past plan past i) is js)
-    ∙ sym (append_assoc (input_means plan past i) (all_mean plan (input_past plan past i) is) (all_mean plan (all_past plan (input_past plan past i) is) js))
+    ∙ sym (append_assoc (input_means plan past i) (all_mean plan (input_past plan past i) is)
+    (all_mean plan (all_past plan (input_past plan past i) is) js))
 
-module _ (laws : ConnectionLaws) (plan : Settings) (past : Past) (c : ℕ) (who : CarrierIdentity) (is : who_of plan c ≡ Some who) (piece : Piece) where
+module _ (laws : ConnectionLaws) (plan : Settings) (past : Past) (c : ℕ) (who : CarrierIdentity) (is : who_of plan c ≡ Some who)
+    (piece : Piece) where
   abbrev now : Connection
   now = left_by_records who (past.carriers c)
 
@@ -78,13 +83,15 @@ module _ (laws : ConnectionLaws) (plan : Settings) (past : Past) (c : ℕ) (who 
   pub at_leaves : left_by_records who (later.carriers c) ≡ piece_leaves who now piece
   at_leaves =
       ap (λ (o : Option CarrierIdentity). left_by_records who (records_at o c)) is
-      ∙ ap (λ (b : Bool). left_by_records who (if b then records_after (past.carriers c) piece else past.carriers c)) (eq-eqb c who.carrier (sym (who_is plan c who is).0))
+      ∙ ap (λ (b : Bool). left_by_records who (if b then records_after (past.carriers c) piece else past.carriers c))
+      (eq-eqb c who.carrier (sym (who_is plan c who is).0))
       ∙ laws.leaves who (past.carriers c) piece
 
   pub at_others : (d : ℕ) → eqb d c ≡ false → later.carriers d ≡ past.carriers d
   at_others d apart =
       ap (λ (o : Option CarrierIdentity). records_at o d) is
-      ∙ ap (λ (b : Bool). if b then records_after (past.carriers d) piece else past.carriers d) (ap (eqb d) (who_is plan c who is).0 ∙ apart)
+      ∙ ap (λ (b : Bool). if b then records_after (past.carriers d) piece else past.carriers d)
+      (ap (eqb d) (who_is plan c who is).0 ∙ apart)
 
 -- ---- the carriers that are up after a change of one
 
@@ -102,21 +109,27 @@ one_change up c b within = record {
   others = λ d apart. get_or-set_other up c d b false (eqb-false d c apart);
 }
 
-pub matches_change : (plan : Settings) (up more : List Bool) (c : ℕ) (b : Bool) (past later : Past) → IsChange up more c b → ((who : CarrierIdentity) → who_of plan c ≡ Some who → IsConnectionOf who b (left_by_records who (later.carriers c)))
-    → ((d : ℕ) → eqb d c ≡ false → later.carriers d ≡ past.carriers d) → later.console ≡ past.console → Matches plan up past → Matches plan more later
+pub matches_change : (plan : Settings) (up more : List Bool) (c : ℕ) (b : Bool) (past later : Past) → IsChange up more c b →
+    ((who : CarrierIdentity) → who_of plan c ≡ Some who → IsConnectionOf who b (left_by_records who (later.carriers c)))
+    → ((d : ℕ) → eqb d c ≡ false → later.carriers d ≡ past.carriers d) → later.console ≡ past.console → Matches plan up past →
+    Matches plan more later
 matches_change plan up more c b past later change here others console matches = record {
   carriers = λ d who is. by d who is (eqb d c) refl;
   console = ap open_in console ∙ matches.console;
 }
   where
-    by : (d : ℕ) (who : CarrierIdentity) → who_of plan d ≡ Some who → (t : Bool) → eqb d c ≡ t → IsConnectionOf who (is_up more d) (left_by_records who (later.carriers d))
+    by : (d : ℕ) (who : CarrierIdentity) → who_of plan d ≡ Some who → (t : Bool) → eqb d c ≡ t →
+        IsConnectionOf who (is_up more d) (left_by_records who (later.carriers d))
     by d who is true same =
         let at : d ≡ c = eqb-true d c same in
-        let its : IsConnectionOf who b (left_by_records who (later.carriers c)) = here who (subst (λ (n : ℕ). who_of plan n ≡ Some who) at is) in
-        subst (λ (n : ℕ). IsConnectionOf who (is_up more n) (left_by_records who (later.carriers n))) (sym at) (subst (λ (t : Bool). IsConnectionOf who t (left_by_records who (later.carriers c))) (sym change.here) its)
+        let its : IsConnectionOf who b (left_by_records who (later.carriers c)) =
+        here who (subst (λ (n : ℕ). who_of plan n ≡ Some who) at is) in
+        subst (λ (n : ℕ). IsConnectionOf who (is_up more n) (left_by_records who (later.carriers n))) (sym at)
+        (subst (λ (t : Bool). IsConnectionOf who t (left_by_records who (later.carriers c))) (sym change.here) its)
     by d who is false apart =
         subst (λ (t : Bool). IsConnectionOf who t (left_by_records who (later.carriers d))) (sym (change.others d apart))
-        (subst (λ (rs : List Record). IsConnectionOf who (is_up up d) (left_by_records who rs)) (sym (others d apart)) (matches.carriers d who is))
+        (subst (λ (rs : List Record). IsConnectionOf who (is_up up d) (left_by_records who rs)) (sym (others d apart))
+        (matches.carriers d who is))
 
 -- ---- events of a carrier
 
@@ -126,10 +139,13 @@ pub record AreMeant (plan : Settings) (up later : List Bool) (inputs : List Inpu
   pub leaves : (past : Past) → Matches plan up past → Matches plan later (all_past plan past inputs)
 
 -- inputs after inputs
-pub then_meant : (plan : Settings) (up more later : List Bool) (is js : List Input) (ns ms : List Notice) → AreMeant plan up more is ns → AreMeant plan more later js ms → AreMeant plan up later (is ++ js) (ns ++ ms)
+pub then_meant : (plan : Settings) (up more later : List Bool) (is js : List Input) (ns ms : List Notice) → AreMeant plan up more is ns →
+    AreMeant plan more later js ms → AreMeant plan up later (is ++ js) (ns ++ ms)
 then_meant plan up more later is js ns ms first second = record {
-  means = λ past matches. all_mean-append plan past is js ∙ (λ i. first.means past matches i ++ second.means (all_past plan past is) (first.leaves past matches) i);
-  leaves = λ past matches. subst (Matches plan later) (sym (fold-append (input_past plan) past is js)) (second.leaves (all_past plan past is) (first.leaves past matches));
+  means = λ past matches. all_mean-append plan past is js ∙
+      (λ i. first.means past matches i ++ second.means (all_past plan past is) (first.leaves past matches) i);
+  leaves = λ past matches. subst (Matches plan later) (sym (fold-append (input_past plan) past is js))
+      (second.leaves (all_past plan past is) (first.leaves past matches));
 }
 
 not_running : (who : CarrierIdentity) (k : Connection) → up_by who k ≡ None → notices_at_end who.carrier k ≡ []
@@ -137,7 +153,8 @@ not_running who Closed e = refl
 not_running who (Waiting rest) e = refl
 not_running who (Running rest newest) e = absurd (cc)
 
-module _ (laws : ConnectionLaws) (plan : Settings) (up : List Bool) (c : ℕ) (who : CarrierIdentity) (is : who_of plan c ≡ Some who) (small : c < 16) where
+module _ (laws : ConnectionLaws) (plan : Settings) (up : List Bool) (c : ℕ) (who : CarrierIdentity) (is : who_of plan c ≡ Some who)
+    (small : c < 16) where
   few : who.carrier < 256
   few = omega (arith, (who_is plan c who is).0, small)
 
@@ -147,12 +164,16 @@ module _ (laws : ConnectionLaws) (plan : Settings) (up : List Bool) (c : ℕ) (w
   -- an input for the carrier, by what it produces and leaves on its connection
   one_input : (later : List Bool) (b : Bool) (piece : Piece) (notices : List Notice) → IsChange up later c b
       → ((k : Connection) → IsConnectionOf who (is_up up c) k → piece_produces who k piece ≡ notices)
-      → ((k : Connection) → IsConnectionOf who (is_up up c) k → IsConnectionOf who b (piece_leaves who k piece)) → AreMeant plan up later (At c piece ∷ []) notices
+      → ((k : Connection) → IsConnectionOf who (is_up up c) k → IsConnectionOf who b (piece_leaves who k piece)) →
+      AreMeant plan up later (At c piece ∷ []) notices
   one_input later b piece notices change produces leaves = record {
-    means = λ past matches. append-nil (input_means plan past (At c piece)) ∙ at_means laws plan past c who is piece ∙ produces (left_by_records who (past.carriers c)) (matches.carriers c who is);
+    means = λ past matches. append-nil (input_means plan past (At c piece)) ∙ at_means laws plan past c who is piece
+        ∙ produces (left_by_records who (past.carriers c)) (matches.carriers c who is);
     leaves = λ past matches. matches_change plan up later c b past (input_past plan past (At c piece)) change
-        (λ w at. subst (λ (v : CarrierIdentity). IsConnectionOf v b (left_by_records v ((input_past plan past (At c piece)).carriers c))) (sym (same_who w at))
-        (subst (IsConnectionOf who b) (sym (at_leaves laws plan past c who is piece)) (leaves (left_by_records who (past.carriers c)) (matches.carriers c who is))))
+        (λ w at. subst (λ (v : CarrierIdentity). IsConnectionOf v b (left_by_records v ((input_past plan past (At c piece)).carriers c)))
+        (sym (same_who w at))
+        (subst (IsConnectionOf who b) (sym (at_leaves laws plan past c who is piece))
+        (leaves (left_by_records who (past.carriers c)) (matches.carriers c who is))))
         (at_others laws plan past c who is piece) refl matches;
   }
 
@@ -165,10 +186,13 @@ module _ (laws : ConnectionLaws) (plan : Settings) (up : List Bool) (c : ℕ) (w
         (λ k at. ap (notices_at_end who.carrier) (quiet_is k at) ∙ ap (λ (n : ℕ). Happened (event.Lost n) ∷ []) (who_is plan c who is).0)
         (λ k at. refl)
 
-    pub frame_meant : (f : FrameIn) → IsQuiet f → who.lpcn < 65536 → AreMeant plan up up (At c (Octets (spelling f)) ∷ []) (Happened (event_of c f) ∷ [])
+    pub frame_meant : (f : FrameIn) → IsQuiet f → who.lpcn < 65536 → AreMeant plan up up (At c (Octets (spelling f)) ∷ [])
+        (Happened (event_of c f) ∷ [])
     frame_meant f quiet channel = one_input up true (Octets (spelling f)) (Happened (event_of c f) ∷ []) (no_change up c true live)
-        (λ k at. ap (λ (j : Connection). piece_produces who j (Octets (spelling f))) (quiet_is k at) ∙ frame_produces laws who few channel f quiet ∙ ap (λ (n : ℕ). Happened (event_of n f) ∷ []) (who_is plan c who is).0)
-        (λ k at. ap (λ (j : Connection). piece_leaves who j (Octets (spelling f))) (quiet_is k at) ∙ frame_leaves laws who few channel f quiet)
+        (λ k at. ap (λ (j : Connection). piece_produces who j (Octets (spelling f))) (quiet_is k at)
+        ∙ frame_produces laws who few channel f quiet ∙ ap (λ (n : ℕ). Happened (event_of n f) ∷ []) (who_is plan c who is).0)
+        (λ k at. ap (λ (j : Connection). piece_leaves who j (Octets (spelling f))) (quiet_is k at)
+        ∙ frame_leaves laws who few channel f quiet)
 
   -- ---- an Up
 
@@ -209,8 +233,10 @@ module _ (laws : ConnectionLaws) (plan : Settings) (up : List Bool) (c : ℕ) (w
 
       up_leaves : Matches plan (slice_set up c true) greeted
       up_leaves = matches_change plan up (slice_set up c true) c true past greeted (one_change up c true within)
-          (λ w at. subst (λ (v : CarrierIdentity). left_by_records v (greeted.carriers c) ≡ quiet_connection) (sym (same_who w at)) greeted_is)
-          (λ d apart. at_others laws plan opened c who is (Octets greeting) d apart ∙ at_others laws plan past c who is Opening d apart) refl matches
+          (λ w at. subst (λ (v : CarrierIdentity). left_by_records v (greeted.carriers c) ≡ quiet_connection)
+          (sym (same_who w at)) greeted_is)
+          (λ d apart. at_others laws plan opened c who is (Octets greeting) d apart ∙ at_others laws plan past c who is Opening d apart)
+          refl matches
 
     pub up_meant : AreMeant plan up (slice_set up c true) (At c Opening ∷ At c (Octets greeting) ∷ []) (Accepted c V1 ∷ [])
     up_meant = record { means = up_means; leaves = up_leaves }
@@ -219,25 +245,30 @@ module _ (laws : ConnectionLaws) (plan : Settings) (up : List Bool) (c : ℕ) (w
 
 -- the laws of lines
 pub record LineLaws : Type 0 where
-  pub pieces : (a b : List ℕ) → (lines_in (a ++ b) ≡ lines_in a ++ lines_in (open_in a ++ b)) × (open_in (a ++ b) ≡ open_in (open_in a ++ b))
-  pub line : (octets more : List ℕ) → All (λ octet. octet ≢ 10) octets → (lines_in (octets ++ 10 ∷ more) ≡ line_step_of octets ∷ lines_in more) × (open_in (octets ++ 10 ∷ more) ≡ open_in more)
+  pub pieces : (a b : List ℕ) → (lines_in (a ++ b) ≡ lines_in a ++ lines_in (open_in a ++ b)) ×
+      (open_in (a ++ b) ≡ open_in (open_in a ++ b))
+  pub line : (octets more : List ℕ) → All (λ octet. octet ≢ 10) octets →
+      (lines_in (octets ++ 10 ∷ more) ≡ line_step_of octets ∷ lines_in more) × (open_in (octets ++ 10 ∷ more) ≡ open_in more)
 
 free_all : (c : ℕ) (xs : List ℕ) → IsFree c xs → All (λ o. o ≢ c) xs
 free_all c [] free k d within = absurd (omega (arith, within))
 free_all c (x ∷ xs) free zero d within = eqb-false x c free.0
 free_all c (x ∷ xs) free (suc k) d within = free_all c xs free.1 k d (omega (arith, within))
 
-module _ (lines : LineLaws) (plan : Settings) (up : List Bool) (t : List ℕ) (free : IsFree 10 t) (notices : List Notice) (its : line_means (line_step_of t) ≡ notices) where
+module _ (lines : LineLaws) (plan : Settings) (up : List Bool) (t : List ℕ) (free : IsFree 10 t) (notices : List Notice)
+    (its : line_means (line_step_of t) ≡ notices) where
   abbrev said : List ℕ
   said = t ++ 10 ∷ []
 
   said_alone : meaning_of_text said ≡ notices
-  said_alone = ap (λ (ls : List LineStep). flat_map line_means ls) (lines.line t [] (free_all 10 t free)).0 ∙ append-nil (line_means (line_step_of t)) ∙ its
+  said_alone = ap (λ (ls : List LineStep). flat_map line_means ls) (lines.line t [] (free_all 10 t free)).0
+      ∙ append-nil (line_means (line_step_of t)) ∙ its
 
   module _ (past : Past) (matches : Matches plan up past) where
     said_after : meaning_of_text (past.console ++ said) ≡ meaning_of_text past.console ++ notices
     said_after =
-        ap (λ (ls : List LineStep). flat_map line_means ls) ((lines.pieces past.console said).0 ∙ ap (λ (o : List ℕ). lines_in past.console ++ lines_in (o ++ said)) matches.console)
+        ap (λ (ls : List LineStep). flat_map line_means ls)
+        ((lines.pieces past.console said).0 ∙ ap (λ (o : List ℕ). lines_in past.console ++ lines_in (o ++ said)) matches.console)
         ∙ flat_map-append line_means (lines_in past.console) (lines_in said)
         ∙ ap (λ (ns : List Notice). meaning_of_text past.console ++ ns) said_alone
 
@@ -250,7 +281,8 @@ module _ (lines : LineLaws) (plan : Settings) (up : List Bool) (t : List ℕ) (f
     say_leaves : Matches plan up (input_past plan past (Saying said))
     say_leaves = record {
       carriers = matches.carriers;
-      console = (lines.pieces past.console said).1 ∙ ap (λ (o : List ℕ). open_in (o ++ said)) matches.console ∙ (lines.line t [] (free_all 10 t free)).1;
+      console = (lines.pieces past.console said).1 ∙ ap (λ (o : List ℕ). open_in (o ++ said)) matches.console
+          ∙ (lines.line t [] (free_all 10 t free)).1;
     }
 
   pub say_meant : AreMeant plan up up (Saying said ∷ []) notices

@@ -53,27 +53,33 @@ Meant plan up later given notices = AreMeant plan up later (inputs_of_script giv
 inputs-append : (gs hs : List RepeatedInput) → inputs_of_script (gs ++ hs) ≡ inputs_of_script gs ++ inputs_of_script hs
 inputs-append gs hs = flat_map-append (λ (g : RepeatedInput). replicate g.times g.input) gs hs
 
-then_lines : (plan : Settings) (up more later : List Bool) (gs hs : List RepeatedInput) (ns ms : List Notice) → Meant plan up more gs ns → Meant plan more later hs ms → Meant plan up later (gs ++ hs) (ns ++ ms)
+then_lines : (plan : Settings) (up more later : List Bool) (gs hs : List RepeatedInput) (ns ms : List Notice) → Meant plan up more gs ns →
+    Meant plan more later hs ms → Meant plan up later (gs ++ hs) (ns ++ ms)
 then_lines plan up more later gs hs ns ms first second =
-    subst (λ (is : List Input). AreMeant plan up later is (ns ++ ms)) (sym (inputs-append gs hs)) (then_meant plan up more later (inputs_of_script gs) (inputs_of_script hs) ns ms first second)
+    subst (λ (is : List Input). AreMeant plan up later is (ns ++ ms)) (sym (inputs-append gs hs))
+    (then_meant plan up more later (inputs_of_script gs) (inputs_of_script hs) ns ms first second)
 
 ticks_lines_meant : (plan : Settings) (up : List Bool) (n : ℕ) → Meant plan up up (ticks_together n) (replicate n tick)
 ticks_lines_meant plan up n = by n (n == 0) refl
   where
-    by : (m : ℕ) (b : Bool) → (m == 0) ≡ b → Meant plan up up (if b then [] else record { input = Ticking; times = m } ∷ []) (replicate m tick)
+    by : (m : ℕ) (b : Bool) → (m == 0) ≡ b → Meant plan up up (if b then [] else record { input = Ticking; times = m } ∷ [])
+        (replicate m tick)
     by zero true e = ticks_meant plan up 0
     by zero false e = absurd (cc)
     by (suc m) true e = absurd (omega (arith, eqb-true (suc m) 0 e))
-    by (suc m) false e = subst (λ (is : List Input). AreMeant plan up up is (replicate (suc m) tick)) (sym (append-nil (replicate (suc m) Ticking))) (ticks_meant plan up (suc m))
+    by (suc m) false e = subst (λ (is : List Input). AreMeant plan up up is (replicate (suc m) tick))
+        (sym (append-nil (replicate (suc m) Ticking))) (ticks_meant plan up (suc m))
 
 module _ (laws : ConnectionLaws) (lines : LineLaws) (code : CodeLaws) (plan : Settings) where
   -- a frame of a carrier that is up
   module _ (up : List Bool) where
     -- the event of an RX
-    heard_is : (slot : _) (pdu : Pdu) → meaning_of (burst_of pdu) ≡ Some pdu → Happened (event_of_burst slot (meaning_of (burst_of pdu))) ≡ Happened (event.Heard slot pdu)
+    heard_is : (slot : _) (pdu : Pdu) → meaning_of (burst_of pdu) ≡ Some pdu →
+        Happened (event_of_burst slot (meaning_of (burst_of pdu))) ≡ Happened (event.Heard slot pdu)
     heard_is slot pdu means = ap (λ (o : Option Pdu). Happened (event_of_burst slot o)) means
 
-  event_meant : (up : List Bool) (e : Event) → length up ≡ 16 → IsRecordable plan up e → Meant plan up (up_after up e) (inputs_of_event plan e) (notice_of_event e ∷ [])
+  event_meant : (up : List Bool) (e : Event) → length up ≡ 16 → IsRecordable plan up e →
+      Meant plan up (up_after up e) (inputs_of_event plan e) (notice_of_event e ∷ [])
   event_meant up (event.Up c) len is =
       let who = some_who (who_of plan c) is.2 in
       up_meant laws plan up c who.0 who.1 is.0 is.3 (omega (arith, (who_is plan c who.0 who.1).1, is.1)) (omega (arith, len, is.0))
@@ -83,19 +89,24 @@ module _ (laws : ConnectionLaws) (lines : LineLaws) (code : CodeLaws) (plan : Se
   event_meant up (event.Heard slot pdu) len is =
       let who = some_who (who_of plan slot.carrier) is.0.2 in
       subst (λ (n : Notice). Meant plan up up (inputs_of_event plan (event.Heard slot pdu)) (n ∷ [])) (heard_is up slot pdu is.2)
-      (frame_meant laws plan up slot.carrier who.0 who.1 is.0.0 is.0.3 (frame.Rx None slot.slot (burst_of pdu)) (rx_quiet slot.slot (burst_of pdu) is.1 (burst_length pdu)) (omega (arith, (who_is plan slot.carrier who.0 who.1).1, is.0.1)))
+      (frame_meant laws plan up slot.carrier who.0 who.1 is.0.0 is.0.3 (frame.Rx None slot.slot (burst_of pdu))
+      (rx_quiet slot.slot (burst_of pdu) is.1 (burst_length pdu)) (omega (arith, (who_is plan slot.carrier who.0 who.1).1, is.0.1)))
   event_meant up (event.Noise slot) len is =
       let who = some_who (who_of plan slot.carrier) is.0.2 in
-      subst (λ (n : Notice). Meant plan up up (inputs_of_event plan (event.Noise slot)) (n ∷ [])) (ap (λ (o : Option Pdu). Happened (event_of_burst slot o)) (noise_means_nothing code))
-      (frame_meant laws plan up slot.carrier who.0 who.1 is.0.0 is.0.3 (frame.Rx None slot.slot noise_word) (rx_quiet slot.slot noise_word is.1 refl) (omega (arith, (who_is plan slot.carrier who.0 who.1).1, is.0.1)))
+      subst (λ (n : Notice). Meant plan up up (inputs_of_event plan (event.Noise slot)) (n ∷ []))
+      (ap (λ (o : Option Pdu). Happened (event_of_burst slot o)) (noise_means_nothing code))
+      (frame_meant laws plan up slot.carrier who.0 who.1 is.0.0 is.0.3 (frame.Rx None slot.slot noise_word)
+      (rx_quiet slot.slot noise_word is.1 refl) (omega (arith, (who_is plan slot.carrier who.0 who.1).1, is.0.1)))
   event_meant up (event.Active slot) len is =
       let who = some_who (who_of plan slot.carrier) is.0.2 in
-      frame_meant laws plan up slot.carrier who.0 who.1 is.0.0 is.0.3 (frame.Active slot.slot) (active_quiet slot.slot is.1) (omega (arith, (who_is plan slot.carrier who.0 who.1).1, is.0.1))
+      frame_meant laws plan up slot.carrier who.0 who.1 is.0.0 is.0.3 (frame.Active slot.slot) (active_quiet slot.slot is.1)
+      (omega (arith, (who_is plan slot.carrier who.0 who.1).1, is.0.1))
   event_meant up (event.Poll c) len is =
       let who = some_who (who_of plan c) is.2 in
       frame_meant laws plan up c who.0 who.1 is.0 is.3 frame.Poll poll_quiet (omega (arith, (who_is plan c who.0 who.1).1, is.1))
   event_meant up event.Tick len is = ticks_meant plan up 1
-  event_meant up (event.Say command) len is = say_meant lines plan up (command_text command) (command_free command is 10 (omega arith)) (notice_of_event (event.Say command) ∷ []) (command_means command is)
+  event_meant up (event.Say command) len is = say_meant lines plan up (command_text command) (command_free command is 10 (omega arith))
+      (notice_of_event (event.Say command) ∷ []) (command_means command is)
 
   up_length : (up : List Bool) (e : Event) → length up ≡ 16 → length (up_after up e) ≡ 16
   up_length up (event.Up c) len = length-set up c true ∙ len
@@ -104,24 +115,36 @@ module _ (laws : ConnectionLaws) (lines : LineLaws) (code : CodeLaws) (plan : Se
 
   replicate_more : (n : ℕ) (ns : List Notice) → replicate (n + 1) tick ++ ns ≡ replicate n tick ++ tick ∷ ns
   replicate_more zero ns = refl
-  replicate_more (suc n) ns = let e : suc n + 1 ≡ suc (n + 1) = omega arith in ap (λ (k : ℕ). replicate k tick ++ ns) e ∙ ap (λ (ms : List Notice). tick ∷ ms) (replicate_more n ns)
+  replicate_more (suc n) ns = let e : suc n + 1 ≡ suc (n + 1) =
+      omega arith in ap (λ (k : ℕ). replicate k tick ++ ns) e ∙ ap (λ (ms : List Notice). tick ∷ ms) (replicate_more n ns)
 
   all_meant : (up : List Bool) (n : ℕ) (events : List Event) → length up ≡ 16 → AreRecordable plan up events
       → Meant plan up (up_after_all up events) (inputs_after_ticks plan n events) (replicate n tick ++ map notice_of_event events)
-  all_meant up n [] len are = subst (λ (ns : List Notice). Meant plan up up (ticks_together n) ns) (sym (append-nil (replicate n tick))) (ticks_lines_meant plan up n)
+  all_meant up n [] len are = subst (λ (ns : List Notice). Meant plan up up (ticks_together n) ns) (sym (append-nil (replicate n tick)))
+      (ticks_lines_meant plan up n)
   all_meant up n (event.Tick ∷ es) len are = by (all_meant up (n + 1) es len are.1) (all_meant up 1 es len are.1) (nat_lt n 100000)
     where
-      by : Meant plan up (up_after_all up es) (inputs_after_ticks plan (n + 1) es) (replicate (n + 1) tick ++ map notice_of_event es) → Meant plan up (up_after_all up es) (inputs_after_ticks plan 1 es) (replicate 1 tick ++ map notice_of_event es) → (b : Bool)
-          → Meant plan up (up_after_all up es) (if b then inputs_after_ticks plan (n + 1) es else ticks_together n ++ inputs_after_ticks plan 1 es) (replicate n tick ++ tick ∷ map notice_of_event es)
-      by more others true = subst (λ (ns : List Notice). Meant plan up (up_after_all up es) (inputs_after_ticks plan (n + 1) es) ns) (replicate_more n (map notice_of_event es)) more
-      by more others false = then_lines plan up up (up_after_all up es) (ticks_together n) (inputs_after_ticks plan 1 es) (replicate n tick) (tick ∷ map notice_of_event es) (ticks_lines_meant plan up n) others
+      by : Meant plan up (up_after_all up es) (inputs_after_ticks plan (n + 1) es) (replicate (n + 1) tick ++ map notice_of_event es) →
+          Meant plan up (up_after_all up es) (inputs_after_ticks plan 1 es) (replicate 1 tick ++ map notice_of_event es) → (b : Bool)
+          → Meant plan up (up_after_all up es)
+          (if b then inputs_after_ticks plan (n + 1) es else ticks_together n ++ inputs_after_ticks plan 1 es)
+          (replicate n tick ++ tick ∷ map notice_of_event es)
+      by more others true = subst (λ (ns : List Notice). Meant plan up (up_after_all up es) (inputs_after_ticks plan (n + 1) es) ns)
+          (replicate_more n (map notice_of_event es)) more
+      by more others false = then_lines plan up up (up_after_all up es) (ticks_together n) (inputs_after_ticks plan 1 es) (replicate n tick)
+          (tick ∷ map notice_of_event es) (ticks_lines_meant plan up n) others
   all_meant up n (e ∷ es) len are =
-      subst (λ (ns : List Notice). Meant plan up (up_after_all (up_after up e) es) (ticks_together n ++ inputs_of_event plan e ++ inputs_after_ticks plan 0 es) ns) (append_assoc (replicate n tick) (notice_of_event e ∷ []) (map notice_of_event es))
-      (then_lines plan up (up_after up e) (up_after_all (up_after up e) es) (ticks_together n ++ inputs_of_event plan e) (inputs_after_ticks plan 0 es) (replicate n tick ++ notice_of_event e ∷ []) (map notice_of_event es)
-      (then_lines plan up up (up_after up e) (ticks_together n) (inputs_of_event plan e) (replicate n tick) (notice_of_event e ∷ []) (ticks_lines_meant plan up n) (event_meant up e len are.0))
+      subst (λ (ns : List Notice). Meant plan up (up_after_all (up_after up e) es)
+      (ticks_together n ++ inputs_of_event plan e ++ inputs_after_ticks plan 0 es) ns)
+      (append_assoc (replicate n tick) (notice_of_event e ∷ []) (map notice_of_event es))
+      (then_lines plan up (up_after up e) (up_after_all (up_after up e) es) (ticks_together n ++ inputs_of_event plan e)
+      (inputs_after_ticks plan 0 es) (replicate n tick ++ notice_of_event e ∷ []) (map notice_of_event es)
+      (then_lines plan up up (up_after up e) (ticks_together n) (inputs_of_event plan e) (replicate n tick) (notice_of_event e ∷ [])
+      (ticks_lines_meant plan up n) (event_meant up e len are.0))
       (all_meant (up_after up e) 0 es (up_length up e len) are.1))
 
-  pub recorded : (up : List Bool) (events : List Event) → length up ≡ 16 → AreRecordable plan up events → Records plan up (up_after_all up events) events (inputs_of_events plan events)
+  pub recorded : (up : List Bool) (events : List Event) → length up ≡ 16 → AreRecordable plan up events →
+      Records plan up (up_after_all up events) events (inputs_of_events plan events)
   recorded up events len are =
       let meant = all_meant up 0 events len are in
       record {
@@ -145,11 +168,13 @@ nothing_matches plan = record {
 }
 
 -- one recording after another
-pub joined : (plan : Settings) (up more later : List Bool) (es fs : List Event) (gs hs : List RepeatedInput) → Records plan up more es gs → Records plan more later fs hs → Records plan up later (es ++ fs) (gs ++ hs)
+pub joined : (plan : Settings) (up more later : List Bool) (es fs : List Event) (gs hs : List RepeatedInput) → Records plan up more es gs →
+    Records plan more later fs hs → Records plan up later (es ++ fs) (gs ++ hs)
 joined plan up more later es fs gs hs first second =
     let one : Meant plan up more gs (map notice_of_event es) = record { means = first.means; leaves = first.leaves } in
     let two : Meant plan more later hs (map notice_of_event fs) = record { means = second.means; leaves = second.leaves } in
-    let both : Meant plan up later (gs ++ hs) (map notice_of_event es ++ map notice_of_event fs) = then_lines plan up more later gs hs (map notice_of_event es) (map notice_of_event fs) one two in
+    let both : Meant plan up later (gs ++ hs) (map notice_of_event es ++ map notice_of_event fs) =
+    then_lines plan up more later gs hs (map notice_of_event es) (map notice_of_event fs) one two in
     record {
       script = λ text after ok.
           ap script_of (ap (λ (t : List ℕ). t ++ text) (flat_map-append line_of gs hs) ∙ append_assoc (text_of gs) (text_of hs) text)

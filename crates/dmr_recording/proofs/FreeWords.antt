@@ -57,7 +57,8 @@ differs : (c d : ℕ) → c < 48 → eqb (48 + d) c ≡ false
 differs c d small = ne_eqb (48 + d) c (λ e. omega (arith, e, small))
 
 pub decimal_free : (c : ℕ) → c < 48 → (n : ℕ) → n < 2 ^ 64 → IsFree c (decimal n)
-decimal_free c small = decimal_by_steps (λ n ds. IsFree c ds) (λ n l. (differs c n small, tt)) (λ n ds l h. free-append c ds ((48 + n % 10) ∷ []) h (differs c (n % 10) small, tt))
+decimal_free c small = decimal_by_steps (λ n ds. IsFree c ds) (λ n l. (differs c n small, tt))
+    (λ n ds l h. free-append c ds ((48 + n % 10) ∷ []) h (differs c (n % 10) small, tt))
 
 false_after : (b : Bool) → (b && false) ≡ false
 false_after true = refl
@@ -84,7 +85,14 @@ module _ (least most n : ℕ) (low : least ≤ n) (high : n ≤ most) (small : m
   value = (decimal_is_IsNumeral n fits).1
 
   pub short_number : short_number_within least most (decimal n) ≡ Some n
-  short_number = rw (lt-ltb 0 (length (decimal n)) (decimal_nonempty n fits), le-leb (length (decimal n)) 8 short, digits, value, le-leb least n low, le-leb n most high) refl
+  short_number = rw (
+    lt-ltb 0 (length (decimal n)) (decimal_nonempty n fits),
+    le-leb (length (decimal n)) 8 short,
+    digits,
+    value,
+    le-leb least n low,
+    le-leb n most high,
+  ) refl
 
   pub number_word : number_of_word least most (decimal n) ≡ Some n
   number_word = rw (leads n fits) short_number
@@ -97,12 +105,14 @@ pass_free c (x ∷ xs) not_digit all =
     (ne_eqb x c (λ e. cc (e, not_digit, all 0 x (omega arith))), pass_free c xs not_digit (λ k d l. all (suc k) d (omega (arith, l))))
 
 pub encode_free : (c : ℕ) → is_hex_digit c ≡ false → (xs : List ℕ) → IsBytes xs → IsFree c (encode_upper xs)
-encode_free c not_digit xs bytes = pass_free c (encode_upper xs) not_digit (decode_of-ok (encode_upper xs) xs (decode_of-encode_upper xs bytes)).1
+encode_free c not_digit xs bytes =
+    pass_free c (encode_upper xs) not_digit (decode_of-ok (encode_upper xs) xs (decode_of-encode_upper xs bytes)).1
 
 -- ---- words
 
 pub two_words : (name w : List ℕ) → IsFree 32 name → IsFree 32 w → words_of_script_line (name ++ 32 ∷ w) ≡ name ∷ w ∷ []
 two_words name w a b = split_at 32 name w a ∙ ap (λ (ws : List (List ℕ)). name ∷ ws) (split_none 32 w b)
 
-pub three_words : (name v w : List ℕ) → IsFree 32 name → IsFree 32 v → IsFree 32 w → words_of_script_line (name ++ 32 ∷ (v ++ 32 ∷ w)) ≡ name ∷ v ∷ w ∷ []
+pub three_words : (name v w : List ℕ) → IsFree 32 name → IsFree 32 v → IsFree 32 w →
+    words_of_script_line (name ++ 32 ∷ (v ++ 32 ∷ w)) ≡ name ∷ v ∷ w ∷ []
 three_words name v w a b c = split_at 32 name (v ++ 32 ∷ w) a ∙ ap (λ (ws : List (List ℕ)). name ∷ ws) (two_words v w b c)

@@ -8,7 +8,8 @@ use Rattle.dmr_recording.specs.declared.fault.RecordingFault.TheVariants.{OutOfM
 use Rattle.dmr_recording.specs.Events.{events_of}
 use Rattle.dmr_recording.specs.Recordable.{IsFault, IsFirstFault}
 
-pub event_at : (journal : List Entry) (k : ℕ) (entry : Entry) → k < length journal → entry ≡ slice_index_or journal k entry → drop k (events_of journal) ≡ entry.event ∷ drop (k + 1) (events_of journal)
+pub event_at : (journal : List Entry) (k : ℕ) (entry : Entry) → k < length journal → entry ≡ slice_index_or journal k entry →
+    drop k (events_of journal) ≡ entry.event ∷ drop (k + 1) (events_of journal)
 event_at [] k entry within is = absurd (omega (arith, within))
 event_at (x ∷ xs) zero entry within is = ap (λ (it : Entry). it.event ∷ events_of xs) (sym is)
 event_at (x ∷ xs) (suc k) entry within is =
@@ -16,7 +17,9 @@ event_at (x ∷ xs) (suc k) entry within is =
     event_at xs k entry (omega (arith, within)) is ∙ ap (λ (n : ℕ). entry.event ∷ drop n (events_of (x ∷ xs))) (sym next)
 
 -- the fault of the next event is the first
-pub first_fault : (plan : Settings) (first up : List Bool) (k : ℕ) (e : Event) (es rest events : List Event) (fault : RecordingFault) → es ≡ e ∷ rest → ((f : RecordingFault) → IsFirstFault plan up k es f → IsFirstFault plan first 0 events f)
+pub first_fault : (plan : Settings) (first up : List Bool) (k : ℕ) (e : Event) (es rest events : List Event) (fault : RecordingFault) →
+    es ≡ e ∷ rest → ((f : RecordingFault) → IsFirstFault plan up k es f → IsFirstFault plan first 0 events f)
     → (fault ≡ OutOfMemory) ⊎ IsFault plan up k e fault → (fault ≡ OutOfMemory) ⊎ IsFirstFault plan first 0 events fault
 first_fault plan first up k e es rest events fault here carry (inl memory) = inl memory
-first_fault plan first up k e es rest events fault here carry (inr is) = inr (carry fault (subst (λ (l : List Event). IsFirstFault plan up k l fault) (sym here) (inl is)))
+first_fault plan first up k e es rest events fault here carry (inr is) =
+    inr (carry fault (subst (λ (l : List Event). IsFirstFault plan up k l fault) (sym here) (inl is)))

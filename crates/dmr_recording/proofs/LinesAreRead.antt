@@ -35,7 +35,8 @@ open_line c small = record {
   free = free-append 10 (codes "open ") (decimal c) (free_by 10 (codes "open ") refl) (decimal_free 10 (omega arith) c (omega arith));
   taken = refl;
   means =
-      ap input_of_words (two_words (codes "open") (decimal c) (free_by 32 (codes "open") refl) (decimal_free 32 (omega arith) c (omega arith)))
+      ap input_of_words (two_words (codes "open") (decimal c) (free_by 32 (codes "open") refl)
+      (decimal_free 32 (omega arith) c (omega arith)))
       ∙ ap (option_map (λ (n : ℕ). once (At n Opening))) (number_word 0 15 c (omega arith) (omega arith) (omega arith));
 }
 
@@ -46,7 +47,8 @@ cut_line c small = record {
   free = free-append 10 (codes "cut ") (decimal c) (free_by 10 (codes "cut ") refl) (decimal_free 10 (omega arith) c (omega arith));
   taken = refl;
   means =
-      ap input_of_words (two_words (codes "cut") (decimal c) (free_by 32 (codes "cut") refl) (decimal_free 32 (omega arith) c (omega arith)))
+      ap input_of_words (two_words (codes "cut") (decimal c) (free_by 32 (codes "cut") refl)
+      (decimal_free 32 (omega arith) c (omega arith)))
       ∙ ap (option_map (λ (n : ℕ). once (At n Cutting))) (number_word 0 15 c (omega arith) (omega arith) (omega arith));
 }
 
@@ -57,7 +59,8 @@ tick_line n low high = record {
   free = free-append 10 (codes "tick ") (decimal n) (free_by 10 (codes "tick ") refl) (decimal_free 10 (omega arith) n (omega arith));
   taken = refl;
   means =
-      ap input_of_words (two_words (codes "tick") (decimal n) (free_by 32 (codes "tick") refl) (decimal_free 32 (omega arith) n (omega arith)))
+      ap input_of_words (two_words (codes "tick") (decimal n) (free_by 32 (codes "tick") refl)
+      (decimal_free 32 (omega arith) n (omega arith)))
       ∙ ap (option_map (λ (m : ℕ). record { input = Ticking; times = m })) (number_word 1 100000 n low high (omega arith));
 }
 
@@ -78,17 +81,21 @@ bytes_line c x xs small bytes =
     let digits : List ℕ = encode_upper (x ∷ xs) in
     let number_free : (o : ℕ) → o < 48 → IsFree o (decimal c) = λ o l. decimal_free o l c (omega arith) in
     let body : List ℕ = codes "bytes " ++ decimal c ++ codes " " ++ digits in
-    let parts : body ≡ codes "bytes " ++ (decimal c ++ 32 ∷ digits) = ap (λ (l : List ℕ). codes "bytes " ++ l) (append_assoc (decimal c) (32 ∷ []) digits) in
+    let parts : body ≡ codes "bytes " ++ (decimal c ++ 32 ∷ digits) =
+    ap (λ (l : List ℕ). codes "bytes " ++ l) (append_assoc (decimal c) (32 ∷ []) digits) in
     record {
       body = body;
       whole = refl;
       free = free-append 10 (codes "bytes " ++ decimal c ++ codes " ") digits
-          (free-append 10 (codes "bytes " ++ decimal c) (codes " ") (free-append 10 (codes "bytes ") (decimal c) (free_by 10 (codes "bytes ") refl) (number_free 10 (omega arith))) (free_by 10 (codes " ") refl))
+          (free-append 10 (codes "bytes " ++ decimal c) (codes " ")
+          (free-append 10 (codes "bytes ") (decimal c) (free_by 10 (codes "bytes ") refl) (number_free 10 (omega arith)))
+          (free_by 10 (codes " ") refl))
           (encode_free 10 refl (x ∷ xs) bytes);
       taken = refl;
       means =
           ap input_of_line parts
-          ∙ ap input_of_words (three_words (codes "bytes") (decimal c) digits (free_by 32 (codes "bytes") refl) (number_free 32 (omega arith)) (encode_free 32 refl (x ∷ xs) bytes))
+          ∙ ap input_of_words (three_words (codes "bytes") (decimal c) digits (free_by 32 (codes "bytes") refl)
+          (number_free 32 (omega arith)) (encode_free 32 refl (x ∷ xs) bytes))
           ∙ (λ i. octets_from (number_word 0 15 c (omega arith) (omega arith) (omega arith) i) (octets_read x xs bytes i));
     }
 
@@ -97,12 +104,14 @@ bytes_line c x xs small bytes =
 -- the result of a script of which these are the lines, the first with this number
 abbrev read : ℕ → List (List ℕ) → Result (List RepeatedInput) ℕ
 read n lines =
-    unless_fault (find (λ (line : ℕ × List ℕ). is_faulty_line line.1) (enumerate_from n lines)) (filter_map numbered_input (enumerate_from n lines))
+    unless_fault (find (λ (line : ℕ × List ℕ). is_faulty_line line.1) (enumerate_from n lines))
+    (filter_map numbered_input (enumerate_from n lines))
 
 abbrev fault_from : ℕ → List (List ℕ) → Option (ℕ × List ℕ)
 fault_from n lines = find (λ (line : ℕ × List ℕ). is_faulty_line line.1) (enumerate_from n lines)
 
-same_inputs : (n m : ℕ) (lines : List (List ℕ)) → filter_map numbered_input (enumerate_from n lines) ≡ filter_map numbered_input (enumerate_from m lines)
+same_inputs : (n m : ℕ) (lines : List (List ℕ)) → filter_map numbered_input (enumerate_from n lines) ≡ filter_map numbered_input
+    (enumerate_from m lines)
 same_inputs n m [] = refl
 same_inputs n m (l ∷ ls) = ap (cons_option (line_input l)) (same_inputs (n + 1) (m + 1) ls)
 
@@ -110,7 +119,8 @@ same_none : (n m : ℕ) (lines : List (List ℕ)) → fault_from n lines ≡ Non
 same_none n m [] e = refl
 same_none n m (l ∷ ls) e = by (same_none (n + 1) (m + 1) ls) (is_faulty_line l) e
   where
-    by : (fault_from (n + 1) ls ≡ None → fault_from (m + 1) ls ≡ None) → (b : Bool) → cond b (Some (n, l)) (fault_from (n + 1) ls) ≡ None → cond b (Some (m, l)) (fault_from (m + 1) ls) ≡ None
+    by : (fault_from (n + 1) ls ≡ None → fault_from (m + 1) ls ≡ None) → (b : Bool) → cond b (Some (n, l)) (fault_from (n + 1) ls) ≡ None →
+        cond b (Some (m, l)) (fault_from (m + 1) ls) ≡ None
     by rest true e = absurd (cc)
     by rest false e = rest e
 
@@ -128,13 +138,16 @@ module _ (body : List ℕ) (g : RepeatedInput) (taken : is_skipped body ≡ fals
   head : (lines : List (List ℕ)) (after : List RepeatedInput) → read 1 lines ≡ Ok after → read 1 (body ∷ lines) ≡ Ok (g ∷ after)
   head lines after ok =
       let parts = parts_of_ok (fault_from 1 lines) (filter_map numbered_input (enumerate_from 1 lines)) after ok in
-      (λ i. unless_fault (cond (fine i) (Some (1, body)) (same_none 1 2 lines parts.0 i)) (cons_option (input_is i) (same_inputs 2 1 lines i)))
+      (λ i. unless_fault (cond (fine i) (Some (1, body)) (same_none 1 2 lines parts.0 i))
+      (cons_option (input_is i) (same_inputs 2 1 lines i)))
       ∙ ap (λ (gs : List RepeatedInput). Ok (g ∷ gs)) parts.1
 
-  pub script-cons : (more : List ℕ) (after : List RepeatedInput) → IsFree 10 body → script_of more ≡ Ok after → script_of (body ++ 10 ∷ more) ≡ Ok (g ∷ after)
+  pub script-cons : (more : List ℕ) (after : List RepeatedInput) → IsFree 10 body → script_of more ≡ Ok after →
+      script_of (body ++ 10 ∷ more) ≡ Ok (g ∷ after)
   script-cons more after free ok = ap (read 1) (split_at 10 body more free) ∙ head (lines_of more) after ok
 
-pub text_read : (given : List RepeatedInput) → AreLines given → (more : List ℕ) (after : List RepeatedInput) → script_of more ≡ Ok after → script_of (text_of given ++ more) ≡ Ok (given ++ after)
+pub text_read : (given : List RepeatedInput) → AreLines given → (more : List ℕ) (after : List RepeatedInput) → script_of more ≡ Ok after →
+    script_of (text_of given ++ more) ≡ Ok (given ++ after)
 text_read [] lines more after ok = ok
 text_read (g ∷ gs) lines more after ok =
     let line = lines.0 in

@@ -42,7 +42,8 @@ either_way false c d first second = second
 
 information_is : (row column : ℕ) → information_grid (zeros 12) row column ≡ false
 information_is row column =
-    either_way (nat_le 3 (11 * row + column) && (nat_lt column 11 && nat_lt row 9)) (octet_bit (zeros 12) (11 * row + column - 3)) false (bit_is 12 (11 * row + column - 3)) refl
+    either_way (nat_le 3 (11 * row + column) && (nat_lt column 11 && nat_lt row 9)) (octet_bit (zeros 12) (11 * row + column - 3)) false
+    (bit_is 12 (11 * row + column - 3)) refl
 
 parity_is : (line : ℕ → Bool) → ((k : ℕ) → line k ≡ false) → (ks : List ℕ) → parity line ks ≡ false
 parity_is line each [] = refl
@@ -51,7 +52,8 @@ parity_is line each (k ∷ ks) = (λ i. add_bits (each k i) (parity_is line each
 parities_are : (es : List (ℕ × List ℕ)) (line : ℕ → Bool) → ((k : ℕ) → line k ≡ false) → (k : ℕ) → with_parities es line k ≡ false
 unfolding with_parities
 parities_are [] line each k = each k
-parities_are (e ∷ es) line each k = either_way (k == e.0) (parity line e.1) (with_parities es line k) (parity_is line each e.1) (parities_are es line each k)
+parities_are (e ∷ es) line each k =
+    either_way (k == e.0) (parity line e.1) (with_parities es line k) (parity_is line each e.1) (parities_are es line each k)
 
 grid_is : (row column : ℕ) → grid_with_parities (information_grid (zeros 12)) row column ≡ false
 grid_is row column =
@@ -65,7 +67,9 @@ all_are f each (k ∷ ks) = (λ i. each k i ∷ all_are f each ks i)
 word_is : (grid : ℕ → ℕ → Bool) → ((row column : ℕ) → grid row column ≡ false) → grid_word grid ≡ noise_word
 unfolding grid_word
 word_is grid each =
-    all_are (λ place. if place == 0 then false else grid (row_of place) (column_of place)) (λ place. either_way (place == 0) false (grid (row_of place) (column_of place)) refl (each (row_of place) (column_of place))) (range_with_len 0 196)
+    all_are (λ place. if place == 0 then false else grid (row_of place) (column_of place))
+    (λ place. either_way (place == 0) false (grid (row_of place) (column_of place)) refl (each (row_of place) (column_of place)))
+    (range_with_len 0 196)
     ∙ ap (λ (n : ℕ). replicate n false) (length-range_with_len 0 196)
 
 its_codeword : encoding_of (zeros 12) ≡ noise_word
@@ -82,6 +86,7 @@ pub noise_means_nothing : CodeLaws → meaning_of noise_word ≡ None
 unfolding meaning_of
 noise_means_nothing laws =
     let encoding : IsEncoding (zeros 12) noise_word = (laws.encoding (zeros 12) noise_word).1 (sym its_codeword) in
-    let decoded : decoding_of noise_word ≡ Some (zeros 12) = laws.only noise_word (zeros 12) (zeros-octets 12) (laws.encoded (zeros 12) noise_word encoding) in
+    let decoded : decoding_of noise_word ≡ Some (zeros 12) =
+    laws.only noise_word (zeros 12) (zeros-octets 12) (laws.encoded (zeros 12) noise_word encoding) in
     ap (λ (o : Option (List ℕ)). option_map pdu_of (option_and_then without_check o)) decoded
     ∙ ap (option_map pdu_of) no_check

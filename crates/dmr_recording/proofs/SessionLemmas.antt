@@ -30,10 +30,14 @@ use Rattle.dmr_recording.specs.Restored.{options_to_stay, registers, registratio
 abbrev next : Settings → Facts → Event → Facts
 next plan now event = facts_after plan now (unattributed_entry event (answer_after_entries plan now [] event) ∷ [])
 
-one_step : (plan : Settings) (facts : Facts) (entry : Entry) (earlier : List Entry) → entry.acts ≡ answer_after_entries plan facts earlier entry.event → facts_after plan facts (entry ∷ earlier) ≡ next plan (facts_after plan facts earlier) entry.event
-one_step plan facts entry earlier legal = ap (λ (acts : Acts). facts_after plan facts (record { actor = entry.actor; event = entry.event; acts = acts } ∷ earlier)) legal
+one_step : (plan : Settings) (facts : Facts) (entry : Entry) (earlier : List Entry) →
+    entry.acts ≡ answer_after_entries plan facts earlier entry.event → facts_after plan facts (entry ∷ earlier) ≡ next plan
+    (facts_after plan facts earlier) entry.event
+one_step plan facts entry earlier legal =
+    ap (λ (acts : Acts). facts_after plan facts (record { actor = entry.actor; event = entry.event; acts = acts } ∷ earlier)) legal
 
-all_steps : (plan : Settings) (facts : Facts) (journal : List Entry) → IsLegal plan facts journal → facts_after plan facts journal ≡ fold (next plan) facts (reverse (events_of journal))
+all_steps : (plan : Settings) (facts : Facts) (journal : List Entry) → IsLegal plan facts journal →
+    facts_after plan facts journal ≡ fold (next plan) facts (reverse (events_of journal))
 all_steps plan facts [] legal = refl
 all_steps plan facts (entry ∷ earlier) legal =
     one_step plan facts entry earlier legal.0 ∙ ap (λ (now : Facts). next plan now entry.event) (all_steps plan facts earlier legal.1)
@@ -80,19 +84,22 @@ with_control plan c = record plan { lists = record plan.lists { control = c } }
 
 -- the site after the control carrier came up, if the plan has it
 abbrev up_if : Settings → Bool → Facts
-up_if plan has = record (ready plan [] (noise_at_up plan)) { up = if has then slice_set (replicate 16 false) plan.lists.control true else replicate 16 false }
+up_if plan has = record (ready plan [] (noise_at_up plan))
+    { up = if has then slice_set (replicate 16 false) plan.lists.control true else replicate 16 false }
 
 abbrev Begins : Settings → ℕ → Type 0
 Begins plan c = next (with_control plan c) no_facts (Up c) ≡ up_if (with_control plan c) (has_number_in plan.lists.carriers c)
 
 begins : (plan : Settings) (c : ℕ) → c < 16 → Begins plan c
-begins plan c small = at_place (Begins plan) 16 c (refl, (refl, (refl, (refl, (refl, (refl, (refl, (refl, (refl, (refl, (refl, (refl, (refl, (refl, (refl, (refl, tt)))))))))))))))) small
+begins plan c small = at_place (Begins plan) 16 c
+    (refl, (refl, (refl, (refl, (refl, (refl, (refl, (refl, (refl, (refl, (refl, (refl, (refl, (refl, (refl, (refl, tt)))))))))))))))) small
 
 abbrev Ends : Settings → List ℕ → List ℕ → ℕ → Type 0
 Ends plan radios noise c = next (with_control plan c) (ready (with_control plan c) radios noise) (Lost c) ≡ facts_with radios
 
 ends : (plan : Settings) (radios noise : List ℕ) (c : ℕ) → c < 16 → Ends plan radios noise c
-ends plan radios noise c small = at_place (Ends plan radios noise) 16 c (refl, (refl, (refl, (refl, (refl, (refl, (refl, (refl, (refl, (refl, (refl, (refl, (refl, (refl, (refl, (refl, tt)))))))))))))))) small
+ends plan radios noise c small = at_place (Ends plan radios noise) 16 c
+    (refl, (refl, (refl, (refl, (refl, (refl, (refl, (refl, (refl, (refl, (refl, (refl, (refl, (refl, (refl, (refl, tt)))))))))))))))) small
 
 -- ---- a radio registers
 
@@ -104,7 +111,9 @@ request_of plan radio = Heard (record { carrier = plan.lists.control; slot = 0 }
 abbrev answered : Settings → List ℕ → List ℕ → ℕ → List Act → Facts
 answered plan radios noise radio acts =
     let now = ready plan radios noise in
-    next plan (facts_after plan now (unattributed_entry (request_of plan radio) (record { list = acts; said = reply_to plan now (request_of plan radio) }) ∷ [])) (Poll plan.lists.control)
+    next plan (facts_after plan now
+    (unattributed_entry (request_of plan radio) (record { list = acts; said = reply_to plan now (request_of plan radio) }) ∷ []))
+    (Poll plan.lists.control)
 
 -- the acts that answer a registration request, by what is known of the radio
 abbrev acts_by : Settings → ℕ → List Act → Bool → Bool → Bool → Bool → List Act
@@ -124,7 +133,8 @@ is_full radios = nat_le 4096 (length radios)
 
 -- the radios that are registered then
 abbrev radios_by : List ℕ → ℕ → Bool → Bool → Bool → List ℕ
-radios_by radios radio listed here full = if listed then (if here then radios else if full then radios else radios ++ radio ∷ []) else radios
+radios_by radios radio listed here full =
+    if listed then (if here then radios else if full then radios else radios ++ radio ∷ []) else radios
 
 abbrev Answers : Settings → List ℕ → List ℕ → ℕ → ℕ → Type 0
 Answers plan radios noise radio c =
@@ -132,14 +142,52 @@ Answers plan radios noise radio c =
     (answered it radios noise radio (ack it radio plan.system.regi reg_denied) ≡ ready it radios (polled it noise))
     × (answered it radios noise radio (ack it radio plan.system.regi reg_accepted) ≡ ready it radios (polled it noise))
     × (answered it radios noise radio (ack it radio plan.system.regi reg_refused) ≡ ready it radios (polled it noise))
-    × (answered it radios noise radio (Joined radio ∷ ack it radio plan.system.regi reg_accepted) ≡ ready it (radios ++ radio ∷ []) (polled it noise))
+    × (answered it radios noise radio (Joined radio ∷ ack it radio plan.system.regi reg_accepted) ≡ ready it (radios ++ radio ∷ [])
+    (polled it noise))
 
 answers : (plan : Settings) (radios noise : List ℕ) (radio c : ℕ) → c < 16 → Answers plan radios noise radio c
 unfolding acts_for_slot
-answers plan radios noise radio c small = at_place (Answers plan radios noise radio) 16 c
-    ((refl, refl, refl, refl), ((refl, refl, refl, refl), ((refl, refl, refl, refl), ((refl, refl, refl, refl), ((refl, refl, refl, refl), ((refl, refl, refl, refl), ((refl, refl, refl, refl), ((refl, refl, refl, refl), ((refl, refl, refl, refl), ((refl, refl, refl, refl), ((refl, refl, refl, refl), ((refl, refl, refl, refl), ((refl, refl, refl, refl), ((refl, refl, refl, refl), ((refl, refl, refl, refl), ((refl, refl, refl, refl), tt)))))))))))))))) small
+answers plan radios noise radio c small = at_place (Answers plan radios noise radio) 16 c (
+  (refl, refl, refl, refl),
+  (
+    (refl, refl, refl, refl),
+    (
+      (refl, refl, refl, refl),
+      (
+        (refl, refl, refl, refl),
+        (
+          (refl, refl, refl, refl),
+          (
+            (refl, refl, refl, refl),
+            (
+              (refl, refl, refl, refl),
+              (
+                (refl, refl, refl, refl),
+                (
+                  (refl, refl, refl, refl),
+                  (
+                    (refl, refl, refl, refl),
+                    (
+                      (refl, refl, refl, refl),
+                      (
+                        (refl, refl, refl, refl),
+                        ((refl, refl, refl, refl), ((refl, refl, refl, refl), ((refl, refl, refl, refl), ((refl, refl, refl, refl), tt)))),
+                      ),
+                    ),
+                  ),
+                ),
+              ),
+            ),
+          ),
+        ),
+      ),
+    ),
+  ),
+) small
 
-by_answer : (plan : Settings) (radios noise : List ℕ) (radio : ℕ) (others : List Act) (listed here full : Bool) → Answers plan radios noise radio plan.lists.control → answered plan radios noise radio (acts_by plan radio others false listed here full) ≡ ready plan (radios_by radios radio listed here full) (polled plan noise)
+by_answer : (plan : Settings) (radios noise : List ℕ) (radio : ℕ) (others : List Act) (listed here full : Bool) →
+    Answers plan radios noise radio plan.lists.control → answered plan radios noise radio
+    (acts_by plan radio others false listed here full) ≡ ready plan (radios_by radios radio listed here full) (polled plan noise)
 by_answer plan radios noise radio others false here full each = each.0
 by_answer plan radios noise radio others true true full each = each.1
 by_answer plan radios noise radio others true false true each = each.2
@@ -150,11 +198,14 @@ abbrev Acts_at : Settings → List ℕ → List ℕ → ℕ → ℕ → Type 0
 Acts_at plan radios noise radio c =
     let it = with_control plan c in
     let now = ready it radios noise in
-    acts_of it now (request_of it radio) ≡ acts_by it radio (acts_for_leaving it now (record { options = options_to_stay it; source = radio; target = it.system.regi })) (is_leaving it (options_to_stay it)) (lists_radio it radio) (is_registered_in radios radio) (is_full radios)
+    acts_of it now (request_of it radio) ≡ acts_by it radio
+    (acts_for_leaving it now (record { options = options_to_stay it; source = radio; target = it.system.regi }))
+    (is_leaving it (options_to_stay it)) (lists_radio it radio) (is_registered_in radios radio) (is_full radios)
 
 acts_at : (plan : Settings) (radios noise : List ℕ) (radio c : ℕ) → c < 16 → Acts_at plan radios noise radio c
 unfolding acts_for_pdu acts_for_request acts_for_registration
-acts_at plan radios noise radio c small = at_place (Acts_at plan radios noise radio) 16 c (refl, (refl, (refl, (refl, (refl, (refl, (refl, (refl, (refl, (refl, (refl, (refl, (refl, (refl, (refl, (refl, tt)))))))))))))))) small
+acts_at plan radios noise radio c small = at_place (Acts_at plan radios noise radio) 16 c
+    (refl, (refl, (refl, (refl, (refl, (refl, (refl, (refl, (refl, (refl, (refl, (refl, (refl, (refl, (refl, (refl, tt)))))))))))))))) small
 
 -- the request is not one to leave
 abbrev Stays : Settings → Option ℕ → Type 0
@@ -165,17 +216,23 @@ Stays plan bit =
 stays : (plan : Settings) (bit : Option ℕ) → IfSome bit (IsNumberOf key.LeaveBit) → Stays plan bit
 unfolding is_leaving
 stays plan None within = refl
-stays plan (Some k) within = at_place (λ k. Stays plan (Some k)) 7 k (refl, (refl, (refl, (refl, (refl, (refl, (refl, tt))))))) (omega (arith, within.1))
+stays plan (Some k) within =
+    at_place (λ k. Stays plan (Some k)) 7 k (refl, (refl, (refl, (refl, (refl, (refl, (refl, tt))))))) (omega (arith, within.1))
 
 -- a radio registers, if the plan lists it and there is a place
-registers_one : (plan : Settings) (radios noise : List ℕ) (radio : ℕ) → plan.lists.control < 16 → IfSome plan.system.leave_bit (IsNumberOf key.LeaveBit) → next plan (next plan (ready plan radios noise) (request_of plan radio)) (Poll plan.lists.control) ≡ ready plan (radios_by radios radio (lists_radio plan radio) (is_registered_in radios radio) (is_full radios)) (polled plan noise)
+registers_one : (plan : Settings) (radios noise : List ℕ) (radio : ℕ) → plan.lists.control < 16 →
+    IfSome plan.system.leave_bit (IsNumberOf key.LeaveBit) → next plan (next plan (ready plan radios noise) (request_of plan radio))
+    (Poll plan.lists.control) ≡ ready plan
+    (radios_by radios radio (lists_radio plan radio) (is_registered_in radios radio) (is_full radios)) (polled plan noise)
 registers_one plan radios noise radio small within =
     let now = ready plan radios noise in
     let others = acts_for_leaving plan now (record { options = options_to_stay plan; source = radio; target = plan.system.regi }) in
     let listed = lists_radio plan radio in
     let here = is_registered_in radios radio in
     let full = is_full radios in
-    ap (answered plan radios noise radio) (acts_at plan radios noise radio plan.lists.control small ∙ ap (λ (leaves : Bool). acts_by plan radio others leaves listed here full) (stays plan plan.system.leave_bit within))
+    ap (answered plan radios noise radio)
+    (acts_at plan radios noise radio plan.lists.control small ∙ ap
+    (λ (leaves : Bool). acts_by plan radio others leaves listed here full) (stays plan plan.system.leave_bit within))
     ∙ by_answer plan radios noise radio others listed here full (answers plan radios noise radio plan.lists.control small)
 
 -- ---- all radios
@@ -183,21 +240,30 @@ registers_one plan radios noise radio small within =
 abbrev radios_after_join : List ℕ → ℕ → List ℕ
 radios_after_join radios radio = radios_by radios radio true (is_registered_in radios radio) (is_full radios)
 
-joins : (radios : List ℕ) (radio : ℕ) (later : List ℕ) (listed : Bool) → fold radios_after_join (radios_by radios radio listed (is_registered_in radios radio) (is_full radios)) later ≡ fold radios_after_join radios (if listed then radio ∷ later else later)
+joins : (radios : List ℕ) (radio : ℕ) (later : List ℕ) (listed : Bool) →
+    fold radios_after_join (radios_by radios radio listed (is_registered_in radios radio) (is_full radios)) later ≡ fold radios_after_join
+    radios (if listed then radio ∷ later else later)
 joins radios radio later true = refl
 joins radios radio later false = refl
 
-registers_all : (plan : Settings) (earlier noise radios : List ℕ) → plan.lists.control < 16 → IfSome plan.system.leave_bit (IsNumberOf key.LeaveBit) → fold (next plan) (ready plan earlier noise) (flat_map (registers plan) radios ++ Lost plan.lists.control ∷ []) ≡ facts_with (fold radios_after_join earlier (filter (lists_radio plan) radios))
+registers_all : (plan : Settings) (earlier noise radios : List ℕ) → plan.lists.control < 16 →
+    IfSome plan.system.leave_bit (IsNumberOf key.LeaveBit) → fold (next plan) (ready plan earlier noise)
+    (flat_map (registers plan) radios ++ Lost plan.lists.control ∷ []) ≡ facts_with
+    (fold radios_after_join earlier (filter (lists_radio plan) radios))
 registers_all plan earlier noise [] small within = ends plan earlier noise plan.lists.control small
 registers_all plan earlier noise (radio ∷ radios) small within =
     let joined = radios_by earlier radio (lists_radio plan radio) (is_registered_in earlier radio) (is_full earlier) in
-    ap (λ (now : Facts). fold (next plan) now (flat_map (registers plan) radios ++ Lost plan.lists.control ∷ [])) (registers_one plan earlier noise radio small within)
+    ap (λ (now : Facts). fold (next plan) now (flat_map (registers plan) radios ++ Lost plan.lists.control ∷ []))
+    (registers_one plan earlier noise radio small within)
     ∙ registers_all plan joined (polled plan noise) radios small within
     ∙ ap facts_with (joins earlier radio (filter (lists_radio plan) radios) (lists_radio plan radio))
 
 -- after the session the site is one that starts with these radios registered
-pub session_registers : (plan : Settings) (radios : List ℕ) (journal : List Entry) → plan.lists.control < 16 → IsPlan plan → IsLegal plan no_facts journal → events_of journal ≡ reverse (session_of plan radios) → facts_after plan no_facts journal ≡ facts_with (restored plan radios)
+pub session_registers : (plan : Settings) (radios : List ℕ) (journal : List Entry) → plan.lists.control < 16 → IsPlan plan →
+    IsLegal plan no_facts journal → events_of journal ≡ reverse (session_of plan radios) →
+    facts_after plan no_facts journal ≡ facts_with (restored plan radios)
 session_registers plan radios journal small known legal are =
     all_steps plan no_facts journal legal ∙ ap (fold (next plan) no_facts) (ap reverse are ∙ reverse-reverse (session_of plan radios))
-    ∙ ap (λ (now : Facts). fold (next plan) now (flat_map (registers plan) radios ++ Lost plan.lists.control ∷ [])) (begins plan plan.lists.control small ∙ ap (up_if plan) known.lists.control)
+    ∙ ap (λ (now : Facts). fold (next plan) now (flat_map (registers plan) radios ++ Lost plan.lists.control ∷ []))
+    (begins plan plan.lists.control small ∙ ap (up_if plan) known.lists.control)
     ∙ registers_all plan [] (noise_at_up plan) radios small known.system.leave_bit

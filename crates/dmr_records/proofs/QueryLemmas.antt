@@ -20,12 +20,19 @@ module _ (old new : State) (sql : List ℕ) where
   back_keeps : IsRolledBack old new → KeepsCommit old new
   back_keeps h = record { was_open = h.was_open; committed = λ opened. (h.undone opened).1 }
 
-  shown_keeps : (params : Row) (rows : List Row) → IsTrue old.in_transaction → Shown sql params old new rows → KeepsCommit old new × IsTrue new.in_transaction
+  shown_keeps : (params : Row) (rows : List Row) → IsTrue old.in_transaction → Shown sql params old new rows → KeepsCommit old new ×
+      IsTrue new.in_transaction
   unfolding Shown
   shown_keeps params rows inside h = elim (none_or_some h.0.returning) [
     | inl none ↦ let it = rw none at h.2 in (unchanged_keeps it.3, it.3.0.mode ∙ inside)
-    | inr (what, some) ↦ let it = rw some at h.2 in
-        (record { was_open = λ _. it.1.shown.was_open; committed = λ _. it.1.shown.committed_is ∙ ap (λ b. cond b old.committed new.now) inside }, it.1.shown.mode ∙ inside)
+    | inr (what, some) ↦ let it = rw some at h.2 in (
+      record {
+        was_open = λ _. it.1.shown.was_open;
+        committed = λ _. it.1.shown.committed_is
+            ∙ ap (λ b. cond b old.committed new.now) inside;
+      },
+      it.1.shown.mode ∙ inside,
+    )
   ]
 
   fails_keeps : (params : Row) (e : Error) → FailsToQuery sql params old new e → KeepsCommit old new
@@ -37,19 +44,23 @@ module _ (old new : State) (sql : List ℕ) where
     | inr (what, some) ↦ elim (rw some at h.2) [ inl it ↦ unchanged_keeps it.1 | inr it ↦ back_keeps it.3 ]
   ]
 
-  pub row_inside : (params : Row) (row : Row) → IsTrue old.in_transaction → QueriesRowInside sql params old new (Ok row) → KeepsCommit old new × IsTrue new.in_transaction
+  pub row_inside : (params : Row) (row : Row) → IsTrue old.in_transaction → QueriesRowInside sql params old new (Ok row) →
+      KeepsCommit old new × IsTrue new.in_transaction
   unfolding QueriesRow
   row_inside params row inside (inl h) = (unchanged_keeps h.1, h.1.0.mode ∙ inside)
   row_inside params row inside (inr (rows, h, first)) = shown_keeps params rows inside h
 
-  pub query_keeps : (params : Row) (r : Result Row Error) → IsTrue old.in_transaction → QueriesRowInside sql params old new r → KeepsCommit old new
+  pub query_keeps : (params : Row) (r : Result Row Error) → IsTrue old.in_transaction → QueriesRowInside sql params old new r →
+      KeepsCommit old new
   unfolding QueriesRow
   query_keeps params (Ok row) inside h = (row_inside params row inside h).0
   query_keeps params (Err e) inside (inl (inl h)) = fails_keeps params e h
   query_keeps params (Err e) inside (inl (inr (is, h))) = (shown_keeps params [] inside h).0
   query_keeps params (Err e) inside (inr (c, is, some, ended, same, h)) = unchanged_keeps h
 
-  pub all_keeps : {X : Type 0} (params : Row) (items : X → List Row) (r : Result X Error) → IsTrue old.in_transaction → IfOk r (λ x. Shown sql params old new (items x)) → IfErr r (λ e. FailsToQuery sql params old new e ⊎ IsTooLate sql params old new e) → KeepsCommit old new
+  pub all_keeps : {X : Type 0} (params : Row) (items : X → List Row) (r : Result X Error) → IsTrue old.in_transaction →
+      IfOk r (λ x. Shown sql params old new (items x)) → IfErr r (λ e. FailsToQuery sql params old new e ⊎ IsTooLate sql params old new e) →
+      KeepsCommit old new
   all_keeps params items (Ok x) inside shown failed = (shown_keeps params (items x) inside shown).0
   all_keeps params items (Err e) inside shown (inl h) = fails_keeps params e h
   all_keeps params items (Err e) inside shown (inr h) = unchanged_keeps h.5
@@ -63,13 +74,15 @@ keeps_both a b c one two = record {
 
 -- a transaction in which nothing was committed, and which was then rolled back
 module _ {S : Type 0} (g : Ghosts S) (old begin last new : Held S) (begins : begin ≡ begun old) (looks : Looks g begin last)
-    (undone : HasCleanDisk (state g new) → IsRolledBack (state g last) (state g new)) (survives : Survives (state g last) (state g new) (λ _. ⊥)) where
+    (undone : HasCleanDisk (state g new) → IsRolledBack (state g last) (state g new))
+    (survives : Survives (state g last) (state g new) (λ _. ⊥)) where
   pub early : HasCleanDisk (state g new) → HasCleanDisk (state g last)
   early clean = omega (arith, survives.clean)
 
   pub kept : HasCleanDisk (state g new) → KeepsCommit (state g old) (state g last)
   kept clean = let it = looks.kept (early clean) (subst (λ (h : Held S). IsTrue h.in_transaction) (sym begins) refl) in
-      let is : KeepsCommit (state g (begun old)) (state g last) = subst (λ (h : Held S). KeepsCommit (state g h) (state g last)) begins it in
+      let is : KeepsCommit (state g (begun old)) (state g last) =
+      subst (λ (h : Held S). KeepsCommit (state g h) (state g last)) begins it in
       record { was_open = is.was_open; committed = is.committed }
 
   pub has_committed : HasCleanDisk (state g new) → IsTrue (state g new).is_open → HasCommitted g new (state g old).committed

@@ -14,7 +14,8 @@ pub held_contains : (radios : List ℕ) (radio : ℕ) → is_registered_in radio
 held_contains [] radio held = absurd (false≢true held)
 held_contains (r ∷ radios) radio held = by_first (r == radio) refl (held_contains radios radio) held
   where
-    by_first : (b : Bool) → (r == radio) ≡ b → (is_registered_in radios radio ≡ true → Contains radios radio) → (b || is_registered_in radios radio) ≡ true → Contains (r ∷ radios) radio
+    by_first : (b : Bool) → (r == radio) ≡ b → (is_registered_in radios radio ≡ true → Contains radios radio) →
+        (b || is_registered_in radios radio) ≡ true → Contains (r ∷ radios) radio
     by_first true same more held = (0, omega arith, eqb-true r radio same)
     by_first false other more held = let there = more held in (suc there.0, omega (arith, there.1), there.2)
 
@@ -34,7 +35,9 @@ nothing_in [] none = refl
 nothing_in (r ∷ radios) none = absurd (none r (0, omega arith, refl))
 
 -- the least entry from a number on is the least registered radio from there
-pub least_held : (radios : List ℕ) (from : ℕ) (found : Option ℕ) → MatchOption found (All (λ r. r < from) radios) (IsLeastFrom (λ r. r) from radios) → MatchOption found (length (held_from radios from) ≡ 0) (λ least. Contains (held_from radios from) least × All (λ radio. least ≤ radio) (held_from radios from))
+pub least_held : (radios : List ℕ) (from : ℕ) (found : Option ℕ) → MatchOption found (All (λ r. r < from) radios)
+    (IsLeastFrom (λ r. r) from radios) → MatchOption found (length (held_from radios from) ≡ 0)
+    (λ least. Contains (held_from radios from) least × All (λ radio. least ≤ radio) (held_from radios from))
 least_held radios from None below = nothing_in (held_from radios from) (λ radio there.
     let held = held_from-held radios from radio there in
     let under = All-contains (λ r. r < from) radios radio below held.0 in

@@ -21,7 +21,8 @@ lesser n m ns h (inl below) =
 lesser n m ns h (inr above) =
     let same : min n m ≡ n = omega arith in
     let here : Contains (n ∷ ns) n = (0, omega arith, refl) in
-    subst (IsLeast (n ∷ ns)) (sym same) (here, All-cons (λ k. n ≤ k) n ns (omega arith) (All-weaker (λ k. m ≤ k) (λ k. n ≤ k) (λ k le. omega (arith, le, above)) ns h.1))
+    subst (IsLeast (n ∷ ns)) (sym same)
+    (here, All-cons (λ k. n ≤ k) n ns (omega arith) (All-weaker (λ k. m ≤ k) (λ k. n ≤ k) (λ k le. omega (arith, le, above)) ns h.1))
 
 is_least : (n : ℕ) (ns : List ℕ) → IsLeast (n ∷ ns) (option_map_or (λ (m : ℕ). min n m) (least_of ns) n)
 is_least n [] = ((0, omega arith, refl), All-cons (λ k. n ≤ k) n [] (omega arith) (All-nil (λ k. n ≤ k)))
@@ -30,7 +31,8 @@ is_least n (k ∷ ns) =
     lesser n m (k ∷ ns) (is_least k ns) (cases_lt m n)
 
 -- a number of the list that is above none of it is the least
-pub least_found : (numbers : List ℕ) (found : Option ℕ) → MatchOption found (length numbers ≡ 0) (λ least. Contains numbers least × All (λ n. least ≤ n) numbers) → found ≡ least_of numbers
+pub least_found : (numbers : List ℕ) (found : Option ℕ) → MatchOption found (length numbers ≡ 0)
+    (λ least. Contains numbers least × All (λ n. least ≤ n) numbers) → found ≡ least_of numbers
 least_found [] None h = refl
 least_found (n ∷ ns) None h = absurd (omega (arith, h))
 least_found [] (Some r) h = absurd (omega (arith, h.0.1))
@@ -42,19 +44,23 @@ least_found (n ∷ ns) (Some r) h =
     ap (λ (k : ℕ). Some k) (omega (arith, below, above))
 
 -- one radio more
-pub next_one : (radios listed : List ℕ) (next radio left rest : ℕ) → left ≡ suc rest → Some radio ≡ least_of (held_from radios next) → (listed ++ radio ∷ []) ++ next_from rest radios (radio + 1) ≡ listed ++ next_from left radios next
+pub next_one : (radios listed : List ℕ) (next radio left rest : ℕ) → left ≡ suc rest → Some radio ≡ least_of (held_from radios next) →
+    (listed ++ radio ∷ []) ++ next_from rest radios (radio + 1) ≡ listed ++ next_from left radios next
 next_one radios listed next radio left rest more found =
     append_assoc listed (radio ∷ []) (next_from rest radios (radio + 1))
     ∙ ap (λ (o : Option ℕ). listed ++ option_map_or (λ (r : ℕ). r ∷ next_from rest radios (r + 1)) o []) found
     ∙ ap (λ (k : ℕ). listed ++ next_from k radios next) (sym more)
 
 -- no radio more
-pub none_next : (radios listed : List ℕ) (next left : ℕ) → None ≡ least_of (held_from radios next) → listed ≡ listed ++ next_from left radios next
+pub none_next : (radios listed : List ℕ) (next left : ℕ) → None ≡ least_of (held_from radios next) →
+    listed ≡ listed ++ next_from left radios next
 none_next radios listed next zero none = sym (append-nil listed)
-none_next radios listed next (suc left) none = sym (append-nil listed) ∙ ap (λ (o : Option ℕ). listed ++ option_map_or (λ (r : ℕ). r ∷ next_from left radios (r + 1)) o []) none
+none_next radios listed next (suc left) none =
+    sym (append-nil listed) ∙ ap (λ (o : Option ℕ). listed ++ option_map_or (λ (r : ℕ). r ∷ next_from left radios (r + 1)) o []) none
 
 -- at first none is found, and 16 may follow
-pub at_first : (radios listed : List ℕ) (from : ℕ) → listed ≡ [] → listed ++ next_from (16 - length listed) radios from ≡ least_from radios from
+pub at_first : (radios listed : List ℕ) (from : ℕ) → listed ≡ [] → listed ++ next_from
+    (16 - length listed) radios from ≡ least_from radios from
 unfolding least_from
 at_first radios listed from none = ap (λ (ns : List ℕ). ns ++ next_from (16 - length ns) radios from) none
 

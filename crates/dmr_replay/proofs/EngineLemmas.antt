@@ -28,18 +28,22 @@ events plan inputs = reverse (events_in (all_mean plan no_past inputs))
 abbrev reported_by : Settings → Facts → List Input → List Entry
 reported_by plan facts inputs = reverse (journal_of plan facts (events plan inputs))
 
-module _ (plan : Settings) (s new : State) (outputs : Texts) (inputs : List Input) (plan_is : s.plan ≡ plan) (facts_are : s.facts ≡ no_facts) (stands : HasPast s no_past) (uncounted : (carrier : ℕ) → next_of s carrier ≡ None)
-    (legal : (facts : Facts) (events : List Event) → IsLegal s.plan facts (journal_of s.plan facts events)) (run : IsRun s new outputs inputs) where
+module _ (plan : Settings) (s new : State) (outputs : Texts) (inputs : List Input) (plan_is : s.plan ≡ plan)
+    (facts_are : s.facts ≡ no_facts) (stands : HasPast s no_past) (uncounted : (carrier : ℕ) → next_of s carrier ≡ None)
+    (legal : (facts : Facts) (events : List Event) → IsLegal s.plan facts (journal_of s.plan facts events))
+    (run : IsRun s new outputs inputs) where
   answered : IsAnswered s new outputs (all_mean s.plan no_past inputs) (journal_of s.plan s.facts (events s.plan inputs))
   answered =
       let theirs : reverse (events_of (journal_of s.plan s.facts (events s.plan inputs))) ≡ events_in (all_mean s.plan no_past inputs) =
-      ap (λ (es : List Event). reverse es) (its_events s.plan s.facts (events s.plan inputs)) ∙ reverse-reverse (events_in (all_mean s.plan no_past inputs)) in
+      ap (λ (es : List Event). reverse es) (its_events s.plan s.facts (events s.plan inputs))
+      ∙ reverse-reverse (events_in (all_mean s.plan no_past inputs)) in
       run.by_each no_past stands (journal_of s.plan s.facts (events s.plan inputs)) (legal s.facts (events s.plan inputs)) theirs
 
   pub run_text : (carrier : ℕ) → slice_index_or outputs.carriers carrier [] ≡ octets_written plan inputs carrier
   unfolding octets_written
   run_text carrier =
-      answered.texts carrier ∙ (λ i. session_text (uncounted carrier i) carrier (all_mean (plan_is i) no_past inputs) (reported_by (plan_is i) (facts_are i) inputs))
+      answered.texts carrier ∙ (λ i. session_text (uncounted carrier i) carrier (all_mean (plan_is i) no_past inputs)
+      (reported_by (plan_is i) (facts_are i) inputs))
 
   pub run_reported : outputs.console ≡ operators_text plan inputs
   unfolding operators_text

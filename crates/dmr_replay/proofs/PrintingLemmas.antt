@@ -17,7 +17,8 @@ use Rattle.dmr_replay.specs.Replay.{carrier_line, line_of_number, lines_to}
 encode_with-append : (table xs ys : List ℕ) → encode_with table (xs ++ ys) ≡ encode_with table xs ++ encode_with table ys
 unfolding encode_with
 encode_with-append table [] ys = refl
-encode_with-append table (x ∷ xs) ys = ap (λ (rest : List ℕ). slice_index table (x / 16) ∷ slice_index table (x % 16) ∷ rest) (encode_with-append table xs ys)
+encode_with-append table (x ∷ xs) ys =
+    ap (λ (rest : List ℕ). slice_index table (x / 16) ∷ slice_index table (x % 16) ∷ rest) (encode_with-append table xs ys)
 
 -- nothing is printed yet
 pub nothing_printed : (old : Option (List ℕ)) → Appends old old (encode_upper [])
@@ -25,14 +26,16 @@ unfolding encode_with
 nothing_printed old = Appends-nil old
 
 -- the digits of octets up to a place, and those of a piece after it
-pub digits_more : (octets : List ℕ) (at count : ℕ) → encode_upper (take (at + count) octets) ≡ encode_upper (take at octets) ++ encode_upper (slice_range octets at (at + count))
+pub digits_more : (octets : List ℕ) (at count : ℕ) → encode_upper (take (at + count) octets) ≡ encode_upper (take at octets) ++ encode_upper
+    (slice_range octets at (at + count))
 digits_more octets at count =
     let length_is : at + count - at ≡ count = omega arith in
     ap encode_upper (take-add at count octets ∙ ap (λ (n : ℕ). take at octets ++ take n (drop at octets)) (sym length_is))
     ∙ encode_with-append upper_digits (take at octets) (slice_range octets at (at + count))
 
 -- one more piece is printed
-pub piece_printed : (old before after : Option (List ℕ)) (octets : List ℕ) (at count : ℕ) → Appends old before (encode_upper (take at octets))
+pub piece_printed : (old before after : Option (List ℕ)) (octets : List ℕ) (at count : ℕ) →
+    Appends old before (encode_upper (take at octets))
     → Appends before after (encode_upper (slice_range octets at (at + count))) → Appends old after (encode_upper (take (at + count) octets))
 piece_printed old before after octets at count printed more =
     subst (Appends old after) (sym (digits_more octets at count))
@@ -53,23 +56,28 @@ module _ (plan : Settings) (put_out : ℕ → List ℕ) (number : ℕ) where
 
   with_or_without : (b : Bool) → has_number_in plan.lists.carriers number ≡ b
       → lines_to plan put_out (number + 1) ≡ lines_to plan put_out number ++ (if b then carrier_line number (put_out number) else [])
-  with_or_without b has = lines_more ∙ ap (λ (c : Bool). lines_to plan put_out number ++ (if c then carrier_line number (put_out number) else [])) has
+  with_or_without b has =
+      lines_more ∙ ap (λ (c : Bool). lines_to plan put_out number ++ (if c then carrier_line number (put_out number) else [])) has
 
   -- the plan has the number, and its line is printed
-  pub line_printed : (old before after : Option (List ℕ)) → Appends old before (lines_to plan put_out number) → has_number_in plan.lists.carriers number ≡ true
+  pub line_printed : (old before after : Option (List ℕ)) → Appends old before (lines_to plan put_out number) →
+      has_number_in plan.lists.carriers number ≡ true
       → Appends before after (carrier_line number (put_out number)) → Appends old after (lines_to plan put_out (number + 1))
   line_printed old before after printed there more =
       subst (Appends old after) (sym (with_or_without true there))
       (Appends-trans old before after (lines_to plan put_out number) (carrier_line number (put_out number)) printed more)
 
   -- the plan does not have the number
-  pub passed_over : (old before : Option (List ℕ)) → Appends old before (lines_to plan put_out number) → has_number_in plan.lists.carriers number ≡ false
+  pub passed_over : (old before : Option (List ℕ)) → Appends old before (lines_to plan put_out number) →
+      has_number_in plan.lists.carriers number ≡ false
       → Appends old before (lines_to plan put_out (number + 1))
   passed_over old before printed missing =
       subst (Appends old before) (sym (with_or_without false missing ∙ append-nil (lines_to plan put_out number))) printed
 
 -- a text and its end are printed, and the writer is flushed
-pub end_printed : {A E : Type 0} (flushed : Result A E) (old before after last : Option (List ℕ)) (text end : List ℕ) → Appends old before text → Appends before after end → Keeps after last
+pub end_printed : {A E : Type 0} (flushed : Result A E) (old before after last : Option (List ℕ)) (text end : List ℕ) →
+    Appends old before text → Appends before after end → Keeps after last
     → OnOk flushed (Appends old last (text ++ end))
-end_printed (Ok done) old before after last text end printed more kept = Appends-kept old after last (text ++ end) (Appends-trans old before after text end printed more) kept
+end_printed (Ok done) old before after last text end printed more kept =
+    Appends-kept old after last (text ++ end) (Appends-trans old before after text end printed more) kept
 end_printed (Err fault) old before after last text end printed more kept = tt

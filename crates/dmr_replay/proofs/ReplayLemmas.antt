@@ -33,13 +33,18 @@ module _ (site_name script_name : List ℕ) (fault : ReplayFault) where
   memory_reported (NoLine number) = tt
   memory_reported (Prints text) = tt
 
-  pub no_plan : (read : Result Settings PlanFault) (script : Option (List ℕ)) → (fault ≡ OutOfMemory) ⊎ IsErrAnd read (λ told. fault ≡ SiteFile told) → ReportsFault site_name script_name (of_plan read script) fault
-  no_plan read script (inl memory) = subst (ReportsFault site_name script_name (of_plan read script)) (sym memory) (memory_reported (of_plan read script))
+  pub no_plan : (read : Result Settings PlanFault) (script : Option (List ℕ)) →
+      (fault ≡ OutOfMemory) ⊎ IsErrAnd read (λ told. fault ≡ SiteFile told) → ReportsFault site_name script_name (of_plan read script) fault
+  no_plan read script (inl memory) =
+      subst (ReportsFault site_name script_name (of_plan read script)) (sym memory) (memory_reported (of_plan read script))
   no_plan (Err told) script (inr is) = subst (ReportsFault site_name script_name (NoPlan told)) (sym is) refl
   no_plan (Ok plan) script (inr is) = absurd is
 
-  pub no_lines : (plan : Settings) (read : Result (List RepeatedInput) ℕ) → (fault ≡ OutOfMemory) ⊎ IsErrAnd read (λ number. fault ≡ ScriptLine number) → ReportsFault site_name script_name (of_lines plan read) fault
-  no_lines plan read (inl memory) = subst (ReportsFault site_name script_name (of_lines plan read)) (sym memory) (memory_reported (of_lines plan read))
+  pub no_lines : (plan : Settings) (read : Result (List RepeatedInput) ℕ) →
+      (fault ≡ OutOfMemory) ⊎ IsErrAnd read (λ number. fault ≡ ScriptLine number) →
+      ReportsFault site_name script_name (of_lines plan read) fault
+  no_lines plan read (inl memory) =
+      subst (ReportsFault site_name script_name (of_lines plan read)) (sym memory) (memory_reported (of_lines plan read))
   no_lines plan (Err number) (inr is) = subst (ReportsFault site_name script_name (NoLine number)) (sym is) refl
   no_lines plan (Ok given) (inr is) = absurd is
 

@@ -73,7 +73,8 @@ cuts_1 = refl
 one_tick : script_of (codes "tick") ≡ Ok (once Ticking ∷ [])
 one_tick = refl
 
-many_ticks : script_of (codes "tick 100000\ntick 1\ntick 20") ≡ Ok (record { input = Ticking; times = 100000 } ∷ once Ticking ∷ record { input = Ticking; times = 20 } ∷ [])
+many_ticks : script_of (codes "tick 100000\ntick 1\ntick 20") ≡ Ok
+    (record { input = Ticking; times = 100000 } ∷ once Ticking ∷ record { input = Ticking; times = 20 } ∷ [])
 many_ticks = refl
 
 too_many_ticks : script_of (codes "tick 100001") ≡ Err 1

@@ -13,19 +13,25 @@ use Rattle.dmr_replay.specs.Script.{RepeatedInput, given_in, numbered_input, inp
 -- inputs
 abbrev pub answer : List RepeatedInput → ℕ → List (List ℕ) → Result (List RepeatedInput) ℕ
 answer given n lines =
-    unless_fault (find (λ line. is_faulty_line line.1) (enumerate_from n lines)) (given ++ filter_map numbered_input (enumerate_from n lines))
+    unless_fault (find (λ line. is_faulty_line line.1) (enumerate_from n lines))
+    (given ++ filter_map numbered_input (enumerate_from n lines))
 
-skipped-cons : (given : List RepeatedInput) (n : ℕ) (line : List ℕ) (lines : List (List ℕ)) → is_skipped line ≡ true → answer given n (line ∷ lines) ≡ answer given (n + 1) lines
+skipped-cons : (given : List RepeatedInput) (n : ℕ) (line : List ℕ) (lines : List (List ℕ)) → is_skipped line ≡ true →
+    answer given n (line ∷ lines) ≡ answer given (n + 1) lines
 skipped-cons given n line lines skipped = rw skipped refl
 
-inputs-cons : (given : List RepeatedInput) (n : ℕ) (line : List ℕ) (lines : List (List ℕ)) (input : RepeatedInput) → is_skipped line ≡ false → input_of_line line ≡ Some input
+inputs-cons : (given : List RepeatedInput) (n : ℕ) (line : List ℕ) (lines : List (List ℕ)) (input : RepeatedInput) →
+    is_skipped line ≡ false → input_of_line line ≡ Some input
     → answer given n (line ∷ lines) ≡ answer (given ++ input ∷ []) (n + 1) lines
 inputs-cons given n line lines input skipped gives = rw (skipped, gives, append_assoc) refl
 
-fault-cons : (given : List RepeatedInput) (n : ℕ) (line : List ℕ) (lines : List (List ℕ)) → is_skipped line ≡ false → input_of_line line ≡ None → answer given n (line ∷ lines) ≡ Err n
+fault-cons : (given : List RepeatedInput) (n : ℕ) (line : List ℕ) (lines : List (List ℕ)) → is_skipped line ≡ false →
+    input_of_line line ≡ None → answer given n (line ∷ lines) ≡ Err n
 fault-cons given n line lines skipped gives = rw (skipped, gives) refl
 
-module _ (given : List RepeatedInput) (k : ℕ) (line : List ℕ) (lines : List (List ℕ)) (here : (k < length lines) × (line ≡ slice_index_or lines k line)) (whole : Result (List RepeatedInput) ℕ) (before : answer given (k + 1) (drop k lines) ≡ whole) where
+module _ (given : List RepeatedInput) (k : ℕ) (line : List ℕ) (lines : List (List ℕ))
+    (here : (k < length lines) × (line ≡ slice_index_or lines k line)) (whole : Result (List RepeatedInput) ℕ)
+    (before : answer given (k + 1) (drop k lines) ≡ whole) where
   next : drop k lines ≡ line ∷ drop (k + 1) lines
   next = drop_more lines k line here.0 ∙ ap (λ (l : List ℕ). l ∷ drop (k + 1) lines) (sym here.1)
 
@@ -60,7 +66,8 @@ IsLineAt lines k line = (k < length lines) × (line ≡ slice_index_or lines k l
 pub no_input : (line : List ℕ) → is_skipped line ≡ true → line_input line ≡ None
 no_input line skipped = rw skipped refl
 
-pub its_input : (line : List ℕ) (input : Option RepeatedInput) → is_skipped line ≡ false → input_of_line line ≡ input → line_input line ≡ input
+pub its_input : (line : List ℕ) (input : Option RepeatedInput) → is_skipped line ≡ false → input_of_line line ≡ input →
+    line_input line ≡ input
 its_input line input skipped gives = rw (skipped, gives) refl
 
 adds_none : (line : List ℕ) → line_input line ≡ None → filter_map line_input (line ∷ []) ≡ []
@@ -78,7 +85,8 @@ module _ (k : ℕ) (line : List ℕ) (lines : List (List ℕ)) (here : IsLineAt 
       ∙ filter_map-append line_input (take k lines) (line ∷ [])
 
   -- the inputs of all lines up to this one
-  pub inputs_more : inputs_of_script (given_before lines more) ≡ inputs_of_script (given_before lines k) ++ inputs_of_script (filter_map line_input (line ∷ []))
+  pub inputs_more : inputs_of_script (given_before lines more) ≡ inputs_of_script (given_before lines k) ++ inputs_of_script
+      (filter_map line_input (line ∷ []))
   inputs_more =
       let repeated : RepeatedInput → List Input = λ g. replicate g.times g.input in
       ap inputs_of_script given_more ∙ flat_map-append repeated (given_before lines k) (filter_map line_input (line ∷ []))
@@ -88,20 +96,25 @@ module _ (k : ℕ) (line : List ℕ) (lines : List (List ℕ)) (here : IsLineAt 
     pub passes : is_faulty_line line ≡ false → answer (given_before lines more) (more + 1) (drop more lines) ≡ whole
     passes fine = by (is_skipped line) refl (input_of_line line) refl fine
       where
-        by : (b : Bool) → is_skipped line ≡ b → (o : Option RepeatedInput) → input_of_line line ≡ o → (not b && is_none o) ≡ false → answer (given_before lines more) (more + 1) (drop more lines) ≡ whole
+        by : (b : Bool) → is_skipped line ≡ b → (o : Option RepeatedInput) → input_of_line line ≡ o → (not b && is_none o) ≡ false →
+            answer (given_before lines more) (more + 1) (drop more lines) ≡ whole
         by true skipped o gives_it fine =
-            ap (λ (g : List RepeatedInput). answer g (more + 1) (drop more lines)) (given_more ∙ ap (λ (added : List RepeatedInput). given_before lines k ++ added) (adds_none line (no_input line skipped)) ∙ append-nil (given_before lines k))
+            ap (λ (g : List RepeatedInput). answer g (more + 1) (drop more lines))
+            (given_more ∙ ap (λ (added : List RepeatedInput). given_before lines k ++ added) (adds_none line (no_input line skipped))
+            ∙ append-nil (given_before lines k))
             ∙ skips (given_before lines k) k line lines here whole before more is skipped
         by false skipped (Some input) gives_it fine =
             gives (given_before lines k) k line lines here whole before more is input (given_before lines more)
-            (given_more ∙ ap (λ (added : List RepeatedInput). given_before lines k ++ added) (adds_input line input (its_input line (Some input) skipped gives_it))) skipped gives_it
+            (given_more ∙ ap (λ (added : List RepeatedInput). given_before lines k ++ added)
+            (adds_input line input (its_input line (Some input) skipped gives_it))) skipped gives_it
         by false skipped None gives_it fine = absurd (cc)
 
     -- a line at fault
     pub stops : is_faulty_line line ≡ true → whole ≡ Err (k + 1)
     stops fault = by (is_skipped line) refl (input_of_line line) refl fault
       where
-        by : (b : Bool) → is_skipped line ≡ b → (o : Option RepeatedInput) → input_of_line line ≡ o → (not b && is_none o) ≡ true → whole ≡ Err (k + 1)
+        by : (b : Bool) → is_skipped line ≡ b → (o : Option RepeatedInput) → input_of_line line ≡ o → (not b && is_none o) ≡ true →
+            whole ≡ Err (k + 1)
         by true skipped o gives_it fault = absurd (cc)
         by false skipped (Some input) gives_it fault = absurd (cc)
         by false skipped None gives_it fault = faults (given_before lines k) k line lines here whole before skipped gives_it
@@ -111,7 +124,8 @@ pub all_given : (script : List ℕ) (k : ℕ) → length (lines_of script) ≤ k
 all_given script k all = ap (filter_map line_input) (take_all k (lines_of script) all)
 
 -- a line without an input adds none to others, and a line with one as many as it says
-pub none_more : (before : List Input) (line : List ℕ) → line_input line ≡ None → before ++ inputs_of_script (filter_map line_input (line ∷ [])) ≡ before
+pub none_more : (before : List Input) (line : List ℕ) → line_input line ≡ None →
+    before ++ inputs_of_script (filter_map line_input (line ∷ [])) ≡ before
 none_more before line none = ap (λ (g : List RepeatedInput). before ++ inputs_of_script g) (adds_none line none) ∙ append-nil before
 
 pub as_often_more : (before : List Input) (line : List ℕ) (input : RepeatedInput) → line_input line ≡ Some input
@@ -121,7 +135,8 @@ as_often_more before line input some =
     ∙ ap (λ (l : List Input). before ++ l) (append-nil (replicate input.times input.input))
 
 -- an input again
-pub once_more : (before : List Input) (count : ℕ) (input : Input) → (before ++ replicate count input) ++ input ∷ [] ≡ before ++ replicate (count + 1) input
+pub once_more : (before : List Input) (count : ℕ) (input : Input) → (before ++ replicate count input) ++ input ∷ [] ≡ before ++ replicate
+    (count + 1) input
 once_more before count input =
     append_assoc before (replicate count input) (input ∷ [])
     ∙ ap (λ (l : List Input). before ++ l) (pushed count ∙ ap (λ (n : ℕ). replicate n input) one)
@@ -134,11 +149,14 @@ once_more before count input =
     one = omega arith
 
 -- no line is left
-pub ends : (given : List RepeatedInput) (k : ℕ) (lines : List (List ℕ)) (whole : Result (List RepeatedInput) ℕ) → length lines ≤ k → answer given (k + 1) (drop k lines) ≡ whole → whole ≡ Ok given
-ends given k lines whole all before = sym before ∙ ap (answer given (k + 1)) (drop_all k lines all) ∙ ap (λ (l : List RepeatedInput). Ok l) (append-nil given)
+pub ends : (given : List RepeatedInput) (k : ℕ) (lines : List (List ℕ)) (whole : Result (List RepeatedInput) ℕ) → length lines ≤ k →
+    answer given (k + 1) (drop k lines) ≡ whole → whole ≡ Ok given
+ends given k lines whole all before =
+    sym before ∙ ap (answer given (k + 1)) (drop_all k lines all) ∙ ap (λ (l : List RepeatedInput). Ok l) (append-nil given)
 
 -- a numbered line of a list of lines
-pub line_at : (lines : List (List ℕ)) (k index : ℕ) (line : List ℕ) → (k < length (enumerate_from 0 lines)) × ((index, line) ≡ slice_index_or (enumerate_from 0 lines) k (index, line))
+pub line_at : (lines : List (List ℕ)) (k index : ℕ) (line : List ℕ) → (k < length (enumerate_from 0 lines)) ×
+    ((index, line) ≡ slice_index_or (enumerate_from 0 lines) k (index, line))
     → (index ≡ k) × IsLineAt lines k line
 line_at lines k index line at =
     let lt : k < length lines = omega (arith, length-enumerate_from 0 lines, at.0) in

@@ -34,17 +34,21 @@ module _ {X : Type 0} (f : X → ℕ) (xs : List X) (ps : List Place) (key : ℕ
 
   -- if the first place from the key on is of another key
   pub other_key : (i : ℕ) (p : Place) → HasFirst ps key i → p ≡ get_or ps i p → p.key ≢ key → length xs ≤ 65536 → NoneHasKey f key xs
-  other_key i p first read other few = none_has f key xs (none_is f xs ps few are key i p first (λ same. other (ap (λ (q : Place). q.key) read ∙ same)))
+  other_key i p first read other few =
+      none_has f key xs (none_is f xs ps few are key i p first (λ same. other (ap (λ (q : Place). q.key) read ∙ same)))
 
   -- if it is of the key
-  pub first_entry : (i : ℕ) (p : Place) (x : X) → HasFirst ps key i → p ≡ get_or ps i p → p.key ≡ key → x ≡ get_or xs p.index x → length xs ≤ 65536 → FirstHasKey f key xs p.index x
+  pub first_entry : (i : ℕ) (p : Place) (x : X) → HasFirst ps key i → p ≡ get_or ps i p → p.key ≡ key → x ≡ get_or xs p.index x →
+      length xs ≤ 65536 → FirstHasKey f key xs p.index x
   first_entry i p x first read same entry few =
       let test = λ (y : X). f y == key in
-      let is : IsFirst test xs p.index = subst (λ (n : ℕ). IsFirst test xs n) (sym (ap (λ (q : Place). q.index) read)) (first_is f xs ps few are key i p first (sym (ap (λ (q : Place). q.key) read) ∙ same)) in
+      let is : IsFirst test xs p.index = subst (λ (n : ℕ). IsFirst test xs n) (sym (ap (λ (q : Place). q.index) read))
+      (first_is f xs ps few are key i p first (sym (ap (λ (q : Place). q.key) read) ∙ same)) in
       record { found = first_found test xs p.index x is ∙ ap (λ (y : X). Some y) (sym entry); left = first_left_out test xs p.index x is }
 
   -- the entry at the first place from the key on
-  pub least_entry : (i : ℕ) (p : Place) (x : X) → HasFirst ps key i → p ≡ get_or ps i p → x ≡ get_or xs p.index x → length xs ≤ 65536 → IsLeastFrom f key xs x
+  pub least_entry : (i : ℕ) (p : Place) (x : X) → HasFirst ps key i → p ≡ get_or ps i p → x ≡ get_or xs p.index x → length xs ≤ 65536 →
+      IsLeastFrom f key xs x
   least_entry i p x first read entry few = least_is f xs ps few are key i p x first (entry ∙ ap (λ (q : Place). get_or xs q.index x) read)
 
   -- if no place is from the key on

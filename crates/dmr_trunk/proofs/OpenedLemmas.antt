@@ -18,7 +18,8 @@ use Rattle.dmr_trunk.specs.Opened.{AreNewStations, IsNewStation, IsNewStationOf,
 
 -- ---- the carriers by number
 
-choices_on : (b c : Bool) (k x : ℕ) (ns : List ℕ) → (if b then k ∷ (if c then ns ++ x ∷ [] else ns) else (if c then ns ++ x ∷ [] else ns)) ≡ (if c then (if b then k ∷ ns else ns) ++ x ∷ [] else (if b then k ∷ ns else ns))
+choices_on : (b c : Bool) (k x : ℕ) (ns : List ℕ) → (if b then k ∷ (if c then ns ++ x ∷ [] else ns) else (if c then ns ++ x ∷ [] else ns)) ≡
+    (if c then (if b then k ∷ ns else ns) ++ x ∷ [] else (if b then k ∷ ns else ns))
 choices_on true true k x ns = refl
 choices_on true false k x ns = refl
 choices_on false true k x ns = refl
@@ -36,7 +37,8 @@ numbers_on plan (suc m) k =
 
 -- ---- stations
 
-pub stations_more : (plan : Settings) (numbers : List ℕ) (stations : List (Station (PortState NoWitness) OpenGate)) (number : ℕ) (station : Station (PortState NoWitness) OpenGate) → AreNewStations plan numbers stations → IsNewStationOf plan number station
+pub stations_more : (plan : Settings) (numbers : List ℕ) (stations : List (Station (PortState NoWitness) OpenGate)) (number : ℕ)
+    (station : Station (PortState NoWitness) OpenGate) → AreNewStations plan numbers stations → IsNewStationOf plan number station
     → AreNewStations plan (numbers ++ number ∷ []) (stations ++ station ∷ [])
 stations_more plan [] [] number station are is = (is, tt)
 stations_more plan (n ∷ numbers) (s ∷ stations) number station are is = (are.0, stations_more plan numbers stations number station are.1 is)
@@ -44,13 +46,16 @@ stations_more plan [] (s ∷ stations) number station are is = absurd are
 stations_more plan (n ∷ numbers) [] number station are is = absurd are
 
 -- the carrier is not one of the plan's
-pub no_station : (plan : Settings) (numbers : List ℕ) (stations : List (Station (PortState NoWitness) OpenGate)) (number : ℕ) → has_carrier plan number ≡ false → AreNewStations plan numbers stations → AreNewStations plan (with_number plan numbers number) stations
+pub no_station : (plan : Settings) (numbers : List ℕ) (stations : List (Station (PortState NoWitness) OpenGate)) (number : ℕ) →
+    has_carrier plan number ≡ false → AreNewStations plan numbers stations → AreNewStations plan (with_number plan numbers number) stations
 no_station plan numbers stations number none are =
     let P : Bool → Type 0 = λ has. AreNewStations plan (if has then numbers ++ number ∷ [] else numbers) stations in
     subst P (sym none) are
 
 -- the carrier is one of the plan's, and this is its station
-pub one_station : (plan : Settings) (numbers : List ℕ) (old new : List (Station (PortState NoWitness) OpenGate)) (number : ℕ) (station : Station (PortState NoWitness) OpenGate) → has_carrier plan number ≡ true → IsNewStationOf plan number station → new ≡ old ++ station ∷ []
+pub one_station : (plan : Settings) (numbers : List ℕ) (old new : List (Station (PortState NoWitness) OpenGate)) (number : ℕ)
+    (station : Station (PortState NoWitness) OpenGate) → has_carrier plan number ≡ true → IsNewStationOf plan number station →
+    new ≡ old ++ station ∷ []
     → AreNewStations plan numbers old → AreNewStations plan (with_number plan numbers number) new
 one_station plan numbers old new number station has is same are =
     let P : Bool → Type 0 = λ has. AreNewStations plan (if has then numbers ++ number ∷ [] else numbers) new in
@@ -58,19 +63,25 @@ one_station plan numbers old new number station has is same are =
     subst P (sym has) (subst Q (sym same) (stations_more plan numbers old number station are is))
 
 -- a list with the station at its end, if it could be appended
-pub station_then : {T E : Type 0} (plan : Settings) (old new : List (Station (PortState NoWitness) OpenGate)) (number : ℕ) (row : CarrierRow) (station : Station (PortState NoWitness) OpenGate) (result : Result T E) → Some row ≡ row_with plan.lists.carriers number → true ≡ has_carrier plan number → IsNewStation plan number row.lpcn station → OnOk result (new ≡ old ++ station ∷ [])
+pub station_then : {T E : Type 0} (plan : Settings) (old new : List (Station (PortState NoWitness) OpenGate)) (number : ℕ)
+    (row : CarrierRow) (station : Station (PortState NoWitness) OpenGate) (result : Result T E) →
+    Some row ≡ row_with plan.lists.carriers number → true ≡ has_carrier plan number → IsNewStation plan number row.lpcn station →
+    OnOk result (new ≡ old ++ station ∷ [])
     → OnOk result ((numbers : List ℕ) → AreNewStations plan numbers old → AreNewStations plan (with_number plan numbers number) new)
 station_then plan old new number row station (Ok done) found has is same =
     let P : Option CarrierRow → Type 0 = λ it. IsSomeAnd it (λ (r : CarrierRow). IsNewStation plan number r.lpcn station) in
     λ numbers are. one_station plan numbers old new number station (sym has) (subst P found is) same are
 station_then plan old new number row station (Err fault) found has is same = tt
 
-carrier_of_new : (plan : Settings) (number : ℕ) (found : Option CarrierRow) (station : Station (PortState NoWitness) OpenGate) → IsSomeAnd found (λ (row : CarrierRow). IsNewStation plan number row.lpcn station) → carrier_of_peer station.link.who ≡ Some number
+carrier_of_new : (plan : Settings) (number : ℕ) (found : Option CarrierRow) (station : Station (PortState NoWitness) OpenGate) →
+    IsSomeAnd found (λ (row : CarrierRow). IsNewStation plan number row.lpcn station) → carrier_of_peer station.link.who ≡ Some number
 carrier_of_new plan number None station is = absurd is
 carrier_of_new plan number (Some row) station is = ap carrier_of_peer is.link.who
 
-stations_by_number : (plan : Settings) (numbers : List ℕ) (stations : List (Station (PortState NoWitness) OpenGate)) → AreNewStations plan numbers stations
-    → map (λ (s : StationState). carrier_of_peer s.link.who) (states_of (λ port. None) (λ gate. None) stations) ≡ map (λ (n : ℕ). Some n) numbers
+stations_by_number : (plan : Settings) (numbers : List ℕ) (stations : List (Station (PortState NoWitness) OpenGate)) →
+    AreNewStations plan numbers stations
+    → map (λ (s : StationState). carrier_of_peer s.link.who) (states_of (λ port. None) (λ gate. None) stations) ≡ map
+    (λ (n : ℕ). Some n) numbers
 stations_by_number plan [] [] are = refl
 stations_by_number plan (n ∷ numbers) (station ∷ stations) are =
     let here = carrier_of_new plan n (row_with plan.lists.carriers n) station are.0 in
@@ -85,7 +96,8 @@ stations_by_number plan (n ∷ numbers) [] are = absurd are
 pub at_ok : {A E : Type 0} (P : A → Type 0) (r : Result A E) (x : A) → r ≡ Ok x → IfOk r P → P x
 at_ok P r x is given = subst (λ s. IfOk s P) is given
 
-pub first_fits : (plan : Settings) (facts : Facts) (site : SiteState) (stations : List (Station (PortState NoWitness) OpenGate)) → IsPlan plan → site ≡ record { plan = plan; facts = facts } → AreNewStations plan (carrier_numbers plan) stations
+pub first_fits : (plan : Settings) (facts : Facts) (site : SiteState) (stations : List (Station (PortState NoWitness) OpenGate)) →
+    IsPlan plan → site ≡ record { plan = plan; facts = facts } → AreNewStations plan (carrier_numbers plan) stations
     → AreStations site.plan (states_of (λ port. None) (λ gate. None) stations) × IsLimit site.plan.serving.term_entries
 first_fits plan facts site stations whole same are =
     let P : Settings → Type 0 = λ p. AreStations p (states_of (λ port. None) (λ gate. None) stations) × IsLimit p.serving.term_entries in

@@ -5,7 +5,8 @@ use Rattle.dmr_command.specs.declared.words.Job.{Job}
 use Rattle.dmr_command.specs.Words.{AskFor, Text}
 use Rattle.dmr_trunk.specs.Replay.{IsJobDone, IsReplayed}
 
-pub words_replayed : {E : Type 0} (gave : Text → Option (List ℕ) → Type 0) (slice texts : List (Bor Text)) (words : List Text) (job : Job) (old new : Option (List ℕ)) (r : Result ℕ E) →
+pub words_replayed : {E : Type 0} (gave : Text → Option (List ℕ) → Type 0) (slice texts : List (Bor Text)) (words : List Text) (job : Job)
+    (old new : Option (List ℕ)) (r : Result ℕ E) →
     slice ≡ texts → map (λ text. text.now) texts ≡ words → AskFor (map (λ word. word.now) slice) job →
     IfOk r (λ status. status ≡ 0 → IsJobDone gave job old new) → IfOk r (λ status. status ≡ 0 → IsReplayed gave words old new)
 words_replayed gave slice texts words job old new (Ok status) whole same asked ok =

@@ -7,7 +7,8 @@ use Rattle.dmr_trunk.specs.declared.script.ScriptFault.TheVariants.{Exists, Cann
 use Rattle.dmr_trunk.specs.Scripts.{MayRefuse, is_of_disk, is_of_making}
 
 -- the file cannot be made
-pub refuses_making : (file : RecordingFile) (lines : List ℕ) (fault : ScriptFault) → file.file ≡ None → is_of_making fault ≡ true → MayRefuse file lines fault
+pub refuses_making : (file : RecordingFile) (lines : List ℕ) (fault : ScriptFault) → file.file ≡ None → is_of_making fault ≡ true →
+    MayRefuse file lines fault
 refuses_making file lines Exists none making = none
 refuses_making file lines CannotMake none making = none
 refuses_making file lines Long none making = absurd (false≢true making)

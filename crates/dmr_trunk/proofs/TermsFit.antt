@@ -22,7 +22,8 @@ get_within [] k low = absurd (omega arith)
 get_within (x ∷ xs) zero low = (x, refl)
 get_within (x ∷ xs) (suc k) low = get_within xs k (omega arith)
 
-same_by_place : {A B : Type 0} (f : A → B) (xs ys : List A) → length ys ≡ length xs → ((k : ℕ) (x y : A) → slice_get xs k ≡ Some x → slice_get ys k ≡ Some y → f y ≡ f x) → map f ys ≡ map f xs
+same_by_place : {A B : Type 0} (f : A → B) (xs ys : List A) → length ys ≡ length xs →
+    ((k : ℕ) (x y : A) → slice_get xs k ≡ Some x → slice_get ys k ≡ Some y → f y ≡ f x) → map f ys ≡ map f xs
 same_by_place f [] [] many same = refl
 same_by_place f [] (y ∷ ys) many same = absurd (omega arith)
 same_by_place f (x ∷ xs) [] many same = absurd (omega arith)
@@ -71,7 +72,8 @@ fault_may_be start (Audit (SeatMissing actor)) fits is = is.1.2
 fault_may_be start (Audit (Differs actor)) fits is = tt
 fault_may_be start (Early actor) fits is = tt
 
-pub stopped_may_fail : (start : Start) (terms done : ℕ) (fault : TermFault) (before after : Option (List (List Entry))) → Fits start → HaveStopped start terms done fault before after → MayFail fault
+pub stopped_may_fail : (start : Start) (terms done : ℕ) (fault : TermFault) (before after : Option (List (List Entry))) → Fits start →
+    HaveStopped start terms done fault before after → MayFail fault
 stopped_may_fail start terms done fault before after fits stopped =
     let P : Start → Type 0 = λ s. Fits s in
     fault_may_be stopped.next fault (subst P (sym stopped.run.next_is) (later_fits start stopped.run.ends stopped.run.are fits)) stopped.why

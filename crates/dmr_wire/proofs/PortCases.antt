@@ -69,8 +69,15 @@ all_without_steps = refl
 
 -- ---- steps
 
-by_kind : memory_of (step.Wait waited.Again ∷ step.Read got.Block ∷ step.Connect connect.Ready ∷ step.Read (got.Octets 2) ∷ step.Read got.End ∷ []) 7
-    ≡ record { connects = connect.Ready ∷ []; reads = Says got.Block ∷ Says got.End ∷ []; writes = []; waits = waited.Again ∷ []; recording = empty_recording 7 }
+by_kind : memory_of (step.Wait waited.Again ∷ step.Read got.Block ∷ step.Connect connect.Ready ∷ step.Read
+    (got.Octets 2) ∷ step.Read got.End ∷ []) 7
+    ≡ record {
+      connects = connect.Ready ∷ [];
+      reads = Says got.Block ∷ Says got.End ∷ [];
+      writes = [];
+      waits = waited.Again ∷ [];
+      recording = empty_recording 7;
+    }
 by_kind = refl
 
 empty_feed : feed_of [] ≡ None
@@ -81,7 +88,8 @@ empty_feed = refl
 nothing_yet : reported_by (empty_recording 2) ≡ Some []
 nothing_yet = refl
 
-two_answers : reported_by (recording_with (recording_with (empty_recording 2) Opened) (Came (5 ∷ 6 ∷ []))) ≡ Some (Opened ∷ Came (5 ∷ 6 ∷ []) ∷ [])
+two_answers : reported_by (recording_with (recording_with (empty_recording 2) Opened) (Came (5 ∷ 6 ∷ []))) ≡ Some
+    (Opened ∷ Came (5 ∷ 6 ∷ []) ∷ [])
 two_answers = refl
 
 three_answers : reported_by (recording_with (recording_with (recording_with (empty_recording 2) Opened) InputEnded) Again) ≡ None
@@ -100,9 +108,11 @@ taken_till_then = refl
 
 -- ---- entries
 
-stored : answers_of_entries (entry.Read (got.Octets 2) ∷ entry.Write (put.Octets 1) ∷ entry.Read got.End ∷ entry.Write (put.Octets 2) ∷ []) (1 ∷ 2 ∷ []) (7 ∷ 8 ∷ 9 ∷ [])
+stored : answers_of_entries (entry.Read (got.Octets 2) ∷ entry.Write (put.Octets 1) ∷ entry.Read got.End ∷ entry.Write (put.Octets 2) ∷ [])
+    (1 ∷ 2 ∷ []) (7 ∷ 8 ∷ 9 ∷ [])
     ≡ Came (1 ∷ 2 ∷ []) ∷ Took (7 ∷ []) ∷ InputEnded ∷ Took (8 ∷ 9 ∷ []) ∷ []
 stored = refl
 
-without_octets : map entry_of_answer (Came (1 ∷ 2 ∷ []) ∷ Took [] ∷ Opened ∷ []) ≡ entry.Read (got.Octets 2) ∷ entry.Write (put.Octets 0) ∷ entry.Connect connect.Ready ∷ []
+without_octets : map entry_of_answer (Came (1 ∷ 2 ∷ []) ∷ Took [] ∷ Opened ∷ []) ≡ entry.Read (got.Octets 2) ∷ entry.Write
+    (put.Octets 0) ∷ entry.Connect connect.Ready ∷ []
 without_octets = refl

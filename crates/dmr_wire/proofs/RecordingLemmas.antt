@@ -16,13 +16,15 @@ use Rattle.dmr_wire.specs.Entries.{entry_of_answer, came_with, taken_with, answe
 -- ---- one entry
 
 -- octets after those of the entry change nothing
-answer_of-after : (e : RecordEntry) (c cs t ts : List ℕ) → came_with e ≤ length c → taken_with e ≤ length t → answer_of e (c ++ cs) (t ++ ts) ≡ answer_of e c t
+answer_of-after : (e : RecordEntry) (c cs t ts : List ℕ) → came_with e ≤ length c → taken_with e ≤ length t →
+    answer_of e (c ++ cs) (t ++ ts) ≡ answer_of e c t
 answer_of-after (entry.Read (got.Octets n)) c cs t ts h k = ap Came (take-append-le n c cs h)
 answer_of-after (entry.Write (put.Octets n)) c cs t ts h k = ap Took (take-append-le n t ts k)
 answer_of-after other c cs t ts h k = refl
 
 -- its own octets are enough
-answer_of-take : (e : RecordEntry) (octets : List ℕ) → answer_of e (take (came_with e) octets) (take (taken_with e) octets) ≡ answer_of e octets octets
+answer_of-take : (e : RecordEntry) (octets : List ℕ) → answer_of e (take (came_with e) octets)
+    (take (taken_with e) octets) ≡ answer_of e octets octets
 answer_of-take (entry.Read (got.Octets n)) octets = ap Came (take-take n n octets (omega arith))
 answer_of-take (entry.Write (put.Octets n)) octets = ap Took (take-take n n octets (omega arith))
 answer_of-take other octets = refl
@@ -31,7 +33,8 @@ answer_of-take other octets = refl
 -- others.
 
 -- the entry of its answer is the entry itself
-entry_of_answer-answer_of : (e : RecordEntry) (c t : List ℕ) → came_with e ≤ length c → taken_with e ≤ length t → entry_of_answer (answer_of e c t) ≡ e
+entry_of_answer-answer_of : (e : RecordEntry) (c t : List ℕ) → came_with e ≤ length c → taken_with e ≤ length t →
+    entry_of_answer (answer_of e c t) ≡ e
 entry_of_answer-answer_of (entry.Read (got.Octets n)) c t h k = ap (λ m. entry.Read (got.Octets m)) (length-take-le n c h)
 entry_of_answer-answer_of (entry.Write (put.Octets n)) c t h k = ap (λ m. entry.Write (put.Octets m)) (length-take-le n t k)
 entry_of_answer-answer_of (entry.Connect connect.Ready) c t h k = refl
@@ -39,7 +42,8 @@ entry_of_answer-answer_of (entry.Wait waited.Again) c t h k = refl
 entry_of_answer-answer_of other c t h k = refl
 
 -- the number of octets of its answer
-pub octets_of_answer-answer_of : (e : RecordEntry) (c t : List ℕ) → came_with e ≤ length c → taken_with e ≤ length t → length (octets_of_answer (answer_of e c t)) ≡ came_with e + taken_with e
+pub octets_of_answer-answer_of : (e : RecordEntry) (c t : List ℕ) → came_with e ≤ length c → taken_with e ≤ length t →
+    length (octets_of_answer (answer_of e c t)) ≡ came_with e + taken_with e
 octets_of_answer-answer_of (entry.Read (got.Octets n)) c t h k = let e = length-take-le n c h in omega (arith, e)
 octets_of_answer-answer_of (entry.Write (put.Octets n)) c t h k = let e = length-take-le n t k in omega (arith, e)
 octets_of_answer-answer_of (entry.Connect connect.Ready) c t h k = refl
@@ -62,7 +66,8 @@ came_first e es c t s = let all = sum_by-cons came_with e es in omega (arith, al
 taken_first : (e : RecordEntry) (es : List RecordEntry) (c t : List ℕ) → IsStored (e ∷ es) c t → taken_with e ≤ length t
 taken_first e es c t s = let all = sum_by-cons taken_with e es in omega (arith, all, s.taken_all)
 
-stored_rest : (e : RecordEntry) (es : List RecordEntry) (c t : List ℕ) → IsStored (e ∷ es) c t → IsStored es (drop (came_with e) c) (drop (taken_with e) t)
+stored_rest : (e : RecordEntry) (es : List RecordEntry) (c t : List ℕ) → IsStored (e ∷ es) c t →
+    IsStored es (drop (came_with e) c) (drop (taken_with e) t)
 stored_rest e es c t s =
     let came = sum_by-cons came_with e es in
     let taken = sum_by-cons taken_with e es in record {
@@ -76,14 +81,16 @@ pub length-answers_of : (es : List RecordEntry) (c t : List ℕ) → length (ans
 length-answers_of [] c t = refl
 length-answers_of (e ∷ es) c t = ap suc (length-answers_of es (drop (came_with e) c) (drop (taken_with e) t))
 
-pub count_in-answers_of : (es : List RecordEntry) (c t : List ℕ) → IsStored es c t → count_in (answers_of_entries es c t) ≡ length c + length t
+pub count_in-answers_of : (es : List RecordEntry) (c t : List ℕ) → IsStored es c t →
+    count_in (answers_of_entries es c t) ≡ length c + length t
 count_in-answers_of [] c t s = omega (arith, s.came_all, s.taken_all)
 count_in-answers_of (e ∷ es) c t s =
     let rest = count_in-answers_of es (drop (came_with e) c) (drop (taken_with e) t) (stored_rest e es c t s) in
     let came = came_first e es c t s in
     let taken = taken_first e es c t s in
     let one = octets_of_answer-answer_of e c t came taken in
-    let all = sum_by-cons (λ a. length (octets_of_answer a)) (answer_of e c t) (answers_of_entries es (drop (came_with e) c) (drop (taken_with e) t)) in
+    let all = sum_by-cons (λ a. length (octets_of_answer a)) (answer_of e c t)
+    (answers_of_entries es (drop (came_with e) c) (drop (taken_with e) t)) in
     omega (arith, all, one, rest, came, taken, length-drop (came_with e) c, length-drop (taken_with e) t)
 
 pub taken_in-answers_of : (es : List RecordEntry) (c t : List ℕ) → IsStored es c t → taken_in (answers_of_entries es c t) ≡ t
@@ -104,7 +111,8 @@ entries-answers_of (e ∷ es) c t s =
 
 -- ---- one more entry, with its octets appended
 
-answers_of_entries-append : (es ds : List RecordEntry) (c cs t ts : List ℕ) → IsStored es c t → answers_of_entries (es ++ ds) (c ++ cs) (t ++ ts) ≡ answers_of_entries es c t ++ answers_of_entries ds cs ts
+answers_of_entries-append : (es ds : List RecordEntry) (c cs t ts : List ℕ) → IsStored es c t →
+    answers_of_entries (es ++ ds) (c ++ cs) (t ++ ts) ≡ answers_of_entries es c t ++ answers_of_entries ds cs ts
 answers_of_entries-append [] ds [] cs [] ts s = refl
 answers_of_entries-append [] ds (x ∷ c) cs t ts s = absurd (omega (arith, s.came_all))
 answers_of_entries-append [] ds [] cs (x ∷ t) ts s = absurd (omega (arith, s.taken_all))
@@ -120,37 +128,57 @@ answers_of_entries-append (e ∷ es) ds c cs t ts s =
     ∙ ap (λ answers. answer_of e c t ∷ answers) rest
 
 pub answers_of_entries-push : (es : List RecordEntry) (e : RecordEntry) (c t octets : List ℕ) → IsStored es c t
-    → answers_of_entries (es ++ e ∷ []) (c ++ take (came_with e) octets) (t ++ take (taken_with e) octets) ≡ answers_of_entries es c t ++ answer_of e octets octets ∷ []
+    → answers_of_entries (es ++ e ∷ []) (c ++ take (came_with e) octets)
+    (t ++ take (taken_with e) octets) ≡ answers_of_entries es c t ++ answer_of e octets octets ∷ []
 answers_of_entries-push es e c t octets s =
     answers_of_entries-append es (e ∷ []) c (take (came_with e) octets) t (take (taken_with e) octets) s
     ∙ ap (λ a. answers_of_entries es c t ++ a ∷ []) (answer_of-take e octets)
 
-pub stored_push : (es : List RecordEntry) (e : RecordEntry) (c t octets : List ℕ) → IsStored es c t → came_with e + taken_with e ≤ length octets
+pub stored_push : (es : List RecordEntry) (e : RecordEntry) (c t octets : List ℕ) → IsStored es c t →
+    came_with e + taken_with e ≤ length octets
     → IsStored (es ++ e ∷ []) (c ++ take (came_with e) octets) (t ++ take (taken_with e) octets)
 stored_push es e c t octets s h =
     let came = take (came_with e) octets in
     let taken = take (taken_with e) octets in record {
-      came_all = omega (arith, s.came_all, sum_by_push came_with es e, length-append c came, length-take-le (came_with e) octets (omega (arith, h)));
-      taken_all = omega (arith, s.taken_all, sum_by_push taken_with es e, length-append t taken, length-take-le (taken_with e) octets (omega (arith, h)));
+      came_all = omega (
+        arith,
+        s.came_all,
+        sum_by_push came_with es e,
+        length-append c came,
+        length-take-le (came_with e) octets (omega (arith, h)),
+      );
+      taken_all = omega (
+        arith,
+        s.taken_all,
+        sum_by_push taken_with es e,
+        length-append t taken,
+        length-take-le (taken_with e) octets (omega (arith, h)),
+      );
     }
 
 -- ---- a record with its stored form
 
 -- the remaining room
-pub has_room_for-stored : (room : ℕ) (es : List RecordEntry) (c t : List ℕ) (is_over : Bool) (n : ℕ) → IsStored es c t → length c + length t ≤ room
-    → has_room_for (record { room = room; answers = answers_of_entries es c t; is_over = is_over }) n ≡ nat_lt (length es) room && nat_le n (room - length c - length t)
+pub has_room_for-stored : (room : ℕ) (es : List RecordEntry) (c t : List ℕ) (is_over : Bool) (n : ℕ) → IsStored es c t →
+    length c + length t ≤ room
+    → has_room_for (record { room = room; answers = answers_of_entries es c t; is_over = is_over }) n ≡ nat_lt (length es) room && nat_le n
+    (room - length c - length t)
 has_room_for-stored room es c t is_over n s h = grind (arith, h, length-answers_of es c t, count_in-answers_of es c t s)
 
 -- if there is room for one more answer, there is room for its entry and its octets
 pub room_for_an_answer : (a : Inside) (r : Recording) (n : ℕ) → IsStored a.entries.items a.came.items a.taken.items
-    → record { room = a.room; answers = answers_of_entries a.entries.items a.came.items a.taken.items; is_over = a.is_over } ≡ r → true ≡ has_room_for r n
+    → record { room = a.room; answers = answers_of_entries a.entries.items a.came.items a.taken.items; is_over = a.is_over } ≡ r →
+    true ≡ has_room_for r n
     → (length a.entries.items < a.room) × (length a.came.items + length a.taken.items + n ≤ a.room)
 room_for_an_answer a r n s v h =
     let entries = length-answers_of a.entries.items a.came.items a.taken.items in
     let octets = count_in-answers_of a.entries.items a.came.items a.taken.items s in
-    let room : true ≡ has_room_for (record { room = a.room; answers = answers_of_entries a.entries.items a.came.items a.taken.items; is_over = a.is_over }) n = h ∙ ap (λ q. has_room_for q n) (sym v) in
+    let room : true ≡ has_room_for (record
+    { room = a.room; answers = answers_of_entries a.entries.items a.came.items a.taken.items; is_over = a.is_over }) n = h
+    ∙ ap (λ q. has_room_for q n) (sym v) in
     (grind (arith, entries, room), grind (arith, octets, room))
 
 -- if the record is not over and has room for the answer, the answer is kept
-pub recording_with-kept : (r : Recording) (a : Answer) → r.is_over ≡ false → has_room_for r (length (octets_of_answer a)) ≡ true → record r { answers = r.answers ++ a ∷ [] } ≡ recording_with r a
+pub recording_with-kept : (r : Recording) (a : Answer) → r.is_over ≡ false → has_room_for r (length (octets_of_answer a)) ≡ true →
+    record r { answers = r.answers ++ a ∷ [] } ≡ recording_with r a
 recording_with-kept r a h k = grind (arith, h, k)

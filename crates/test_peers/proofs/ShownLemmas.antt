@@ -9,5 +9,6 @@ map_removed f [] (suc i) = refl
 map_removed f (a ∷ xs) zero = refl
 map_removed f (a ∷ xs) (suc i) = ap (λ ys. f a ∷ ys) (map_removed f xs i)
 
-pub map_replaced : {X Y : Type 0} (f : X → Y) (xs ys : List X) (i : ℕ) (x : X) (y : Y) → ys ≡ slice_set xs i x → f x ≡ y → map f ys ≡ slice_set (map f xs) i y
+pub map_replaced : {X Y : Type 0} (f : X → Y) (xs ys : List X) (i : ℕ) (x : X) (y : Y) → ys ≡ slice_set xs i x → f x ≡ y →
+    map f ys ≡ slice_set (map f xs) i y
 map_replaced f xs ys i x y is at = ap (map f) is ∙ map-set f xs i x ∙ ap (slice_set (map f xs) i) at

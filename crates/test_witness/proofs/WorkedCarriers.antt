@@ -48,15 +48,19 @@ up_done_0 : IsDone who_0 (Accepted 0 V1 ∷ []) welcome (deposit (Up 0) ∷ [])
 up_done_0 = record { events = refl; text = refl; next = refl }
 
 abbrev call_0 : List Happening
-call_0 = Answered (Came hello_0) ∷ Passed Entered ∷ Deposited (deposit (Up 0)) ∷ Answered (Took welcome) ∷ Passed Left ∷ Answered ReadBlocked ∷ []
+call_0 = Answered (Came hello_0) ∷ Passed Entered ∷ Deposited (deposit (Up 0)) ∷ Answered
+    (Took welcome) ∷ Passed Left ∷ Answered ReadBlocked ∷ []
 
 turns_0 : KeepsTurns who_0 (progress_at new_session 0) call_0
 turns_0 =
     let idle_at_first = idle_going who_0 [] opens_0 [] [] [] nothing_0 none_done_0 in
     let up = whole_going who_0 hello_0 goes_0 [] (Some (site.Accepted 0 V1)) [] [] [] means_hello_0 none_done_0 in
     let welcomed = whole_going who_0 hello_0 goes_0 [] None (Accepted 0 V1 ∷ []) welcome (deposit (Up 0) ∷ []) means_hello_0 up_done_0 in
-    let idle = idle_going who_0 hello_0 goes_0 (Accepted 0 V1 ∷ []) welcome (deposit (Up 0) ∷ []) means_hello_0 up_done_0 in
-    ((refl, refl), (λ reads. idle_at_first), (up, ((refl, refl), (λ reads. absurd (omega arith)), (welcomed, ((refl, refl), (λ reads. idle), tt)))))
+    let idle = idle_going who_0 hello_0 goes_0 (Accepted 0 V1 ∷ []) welcome (deposit (Up 0) ∷ []) means_hello_0 up_done_0 in (
+      (refl, refl),
+      (λ reads. idle_at_first),
+      (up, ((refl, refl), (λ reads. absurd (omega arith)), (welcomed, ((refl, refl), (λ reads. idle), tt)))),
+    )
 
 called_0 : (past : List Session) → IsCall who_0 (new_session ∷ past) call_0 Idle
 called_0 past = record {
@@ -65,12 +69,19 @@ called_0 past = record {
   order = refl;
   passages = refl;
   turns = λ s ss same. of_newest (λ x. KeepsTurns who_0 (progress_at x 0) call_0) new_session s past ss same turns_0;
-  rested = λ s ss same. of_newest (λ x. (progress_after_answers (progress_at x 0) (answers_in call_0)).writing ≡ 0) new_session s past ss same refl;
+  rested = λ s ss same. of_newest (λ x. (progress_after_answers (progress_at x 0) (answers_in call_0)).writing ≡ 0) new_session s past ss
+      same refl;
   stops = (Came hello_0 ∷ Took welcome ∷ [], refl);
 }
 
 abbrev cut_session_0 : Session
-cut_session_0 = record { came = hello_0; taken = welcome; how = CutAfter 6 false; is_cut = true; calls = deposit (Up 0) ∷ deposit (Lost 0) ∷ [] }
+cut_session_0 = record {
+  came = hello_0;
+  taken = welcome;
+  how = CutAfter 6 false;
+  is_cut = true;
+  calls = deposit (Up 0) ∷ deposit (Lost 0) ∷ [];
+}
 
 left_cut_0 : IsLeftBy cut_link cut_session_0
 left_cut_0 = record {
@@ -93,9 +104,11 @@ past_0 : (past : List Session) → HasPast (new_link who_0) past → HasPast cut
 past_0 past has = (left_cut_0, were_served who_0 past has)
 
 orderly_0 : (past : List Session) → HasPast (new_link who_0) past → IsOrderly who_0 past steps_0
-orderly_0 past has = (tt, (cut_link, over_0, past_0 past has), (tt, tt, (called_0 past, tt, (tt, (new_link who_0, new_over who_0, has), tt))))
+orderly_0 past has =
+    (tt, (cut_link, over_0, past_0 past has), (tt, tt, (called_0 past, tt, (tt, (new_link who_0, new_over who_0, has), tt))))
 
-pub worked_0 : HasWorked (station_state (new_link (Carrier carrier_0)) (Some []) (Some [])) (station_state cut_link (Some record_0) (Some (passages 1))) (view_of 0 journal) ending.Finished
+pub worked_0 : HasWorked (station_state (new_link (Carrier carrier_0)) (Some []) (Some []))
+    (station_state cut_link (Some record_0) (Some (passages 1))) (view_of 0 journal) ending.Finished
 worked_0 = (
   steps_0,
   record {
@@ -124,7 +137,8 @@ poll_done_1 : IsDone who_1 (Accepted 1 V1 ∷ Happened (Poll 1) ∷ []) (welcome
 poll_done_1 = record { events = refl; text = refl; next = refl }
 
 abbrev call_1 : List Happening
-call_1 = Answered (Came (hello_1 ++ poll)) ∷ Passed Entered ∷ Deposited (deposit (Up 1)) ∷ Answered (Took welcome) ∷ Passed Left ∷ Passed Entered ∷ Deposited (deposit (Poll 1)) ∷ Answered (Took done) ∷ Passed Left
+call_1 = Answered (Came (hello_1 ++ poll)) ∷ Passed Entered ∷ Deposited (deposit (Up 1)) ∷ Answered
+    (Took welcome) ∷ Passed Left ∷ Passed Entered ∷ Deposited (deposit (Poll 1)) ∷ Answered (Took done) ∷ Passed Left
     ∷ Answered (Came (bad_octet ∷ [])) ∷ Passed Entered ∷ Deposited (deposit (Lost 1)) ∷ Passed Left ∷ []
 
 abbrev whole_1 : List ℕ
@@ -169,10 +183,14 @@ turns_1 : KeepsTurns who_1 (progress_at new_session 0) call_1
 turns_1 =
     let idle_at_first = idle_going who_1 [] opens_1 [] [] [] nothing_1 none_done_1 in
     let up = whole_going who_1 hello_1 goes_hello_1 poll (Some (site.Accepted 1 V1)) [] [] [] means_hello_1 none_done_1 in
-    let welcomed = whole_going who_1 hello_1 goes_hello_1 poll None (Accepted 1 V1 ∷ []) welcome (deposit (Up 1) ∷ []) means_hello_1 up_done_1 in
-    let polled = whole_going who_1 (hello_1 ++ poll) goes_poll_1 [] (Some (site.Happened (Poll 1))) (Accepted 1 V1 ∷ []) welcome (deposit (Up 1) ∷ []) means_poll_1 up_done_1 in
-    let answered = whole_going who_1 (hello_1 ++ poll) goes_poll_1 [] None (Accepted 1 V1 ∷ Happened (Poll 1) ∷ []) (welcome ++ done) (deposit (Up 1) ∷ deposit (Poll 1) ∷ []) means_poll_1 poll_done_1 in
-    let idle = idle_going who_1 (hello_1 ++ poll) goes_poll_1 (Accepted 1 V1 ∷ Happened (Poll 1) ∷ []) (welcome ++ done) (deposit (Up 1) ∷ deposit (Poll 1) ∷ []) means_poll_1 poll_done_1 in (
+    let welcomed =
+    whole_going who_1 hello_1 goes_hello_1 poll None (Accepted 1 V1 ∷ []) welcome (deposit (Up 1) ∷ []) means_hello_1 up_done_1 in
+    let polled = whole_going who_1 (hello_1 ++ poll) goes_poll_1 [] (Some (site.Happened (Poll 1))) (Accepted 1 V1 ∷ []) welcome
+    (deposit (Up 1) ∷ []) means_poll_1 up_done_1 in
+    let answered = whole_going who_1 (hello_1 ++ poll) goes_poll_1 [] None (Accepted 1 V1 ∷ Happened (Poll 1) ∷ []) (welcome ++ done)
+    (deposit (Up 1) ∷ deposit (Poll 1) ∷ []) means_poll_1 poll_done_1 in
+    let idle = idle_going who_1 (hello_1 ++ poll) goes_poll_1 (Accepted 1 V1 ∷ Happened (Poll 1) ∷ []) (welcome ++ done)
+    (deposit (Up 1) ∷ deposit (Poll 1) ∷ []) means_poll_1 poll_done_1 in (
       (refl, refl),
       (λ reads. idle_at_first),
       (
@@ -187,7 +205,14 @@ turns_1 =
               (
                 (refl, refl),
                 (λ reads. absurd (omega arith)),
-                (answered, ((refl, refl), (λ reads. idle), ((lost_kept_1, refl, left_lost_kept_1), ((faulty_link, refl, left_faulty), tt)))),
+                (
+                  answered,
+                  (
+                    (refl, refl),
+                    (λ reads. idle),
+                    ((lost_kept_1, refl, left_lost_kept_1), ((faulty_link, refl, left_faulty), tt)),
+                  ),
+                ),
               ),
             ),
           ),
@@ -202,7 +227,8 @@ called_1 past = record {
   order = refl;
   passages = refl;
   turns = λ s ss same. of_newest (λ x. KeepsTurns who_1 (progress_at x 0) call_1) new_session s past ss same turns_1;
-  rested = λ s ss same. of_newest (λ x. (progress_after_answers (progress_at x 0) (answers_in call_1)).writing ≡ 0) new_session s past ss same refl;
+  rested = λ s ss same. of_newest (λ x. (progress_after_answers (progress_at x 0) (answers_in call_1)).writing ≡ 0) new_session s past ss
+      same refl;
   stops = tt;
 }
 
@@ -215,7 +241,8 @@ past_1 past has = (left_faulty, were_served who_1 past has)
 orderly_1 : (past : List Session) → HasPast (new_link who_1) past → IsOrderly who_1 past steps_1
 orderly_1 past has = (tt, (faulty_link, over_1, past_1 past has), (called_1 past, tt, (tt, (new_link who_1, new_over who_1, has), tt)))
 
-pub worked_1 : HasWorked (station_state (new_link (Carrier carrier_1)) (Some []) (Some [])) (station_state faulty_link (Some record_1) (Some (passages 3))) (view_of 1 journal) ending.Finished
+pub worked_1 : HasWorked (station_state (new_link (Carrier carrier_1)) (Some []) (Some []))
+    (station_state faulty_link (Some record_1) (Some (passages 3))) (view_of 1 journal) ending.Finished
 worked_1 = (
   steps_1,
   record {
@@ -234,7 +261,8 @@ worked_1 = (
 orderly_console : (past : List Session) → HasPast (new_link Operator) past → IsOrderly Operator past steps_of_console
 orderly_console past has = (tt, (new_link Operator, new_over Operator, has), tt)
 
-pub worked_console : HasWorked (station_state (new_link Operator) (Some []) None) (station_state (new_link Operator) (Some (Finished ∷ [])) None) (view_of 3 journal) ending.Finished
+pub worked_console : HasWorked (station_state (new_link Operator) (Some []) None)
+    (station_state (new_link Operator) (Some (Finished ∷ [])) None) (view_of 3 journal) ending.Finished
 worked_console = (
   steps_of_console,
   record {

@@ -56,7 +56,8 @@ pub means_poll_1 : meaning_from (Carrier carrier_1) (hello_1 ++ poll) false ≡ 
 unfolding meaning_of_octets step_at kind_step length_step body_step whole_step hello_step
 means_poll_1 = refl
 
-pub means_fault_1 : meaning_from (Carrier carrier_1) ((hello_1 ++ poll) ++ bad_octet ∷ []) false ≡ Accepted 1 V1 ∷ Happened (Poll 1) ∷ Happened (Lost 1) ∷ []
+pub means_fault_1 : meaning_from (Carrier carrier_1) ((hello_1 ++ poll) ++ bad_octet ∷ []) false ≡ Accepted 1 V1 ∷ Happened
+    (Poll 1) ∷ Happened (Lost 1) ∷ []
 unfolding meaning_of_octets step_at kind_step length_step body_step whole_step hello_step
 means_fault_1 = refl
 
@@ -106,7 +107,8 @@ pub record IsDone (who : Peer) (done : List Notice) (taken : List ℕ) (calls : 
   pub next : next_onward who None done calls ≡ None
 
 module _ (who : Peer) (read : List ℕ) (goes : is_going (left_from who read None) ≡ true) where
-  pub left_going : (behind : List ℕ) (kept : Option SiteNotice) (done : List Notice) (taken : List ℕ) (calls : List Deposit) → meaning_from who read false ≡ done ++ (kept_of kept ++ []) → IsDone who done taken calls
+  pub left_going : (behind : List ℕ) (kept : Option SiteNotice) (done : List Notice) (taken : List ℕ) (calls : List Deposit) →
+      meaning_from who read false ≡ done ++ (kept_of kept ++ []) → IsDone who done taken calls
       → IsLeftBy (going_link who read behind kept) (going_session (read ++ behind) taken calls)
   left_going behind kept done taken calls means is = record {
     read = read;
@@ -121,11 +123,14 @@ module _ (who : Peer) (read : List ℕ) (goes : is_going (left_from who read Non
     why = λ closed. absurd (never (sym goes ∙ closed));
   }
 
-  pub whole_going : (behind : List ℕ) (kept : Option SiteNotice) (done : List Notice) (taken : List ℕ) (calls : List Deposit) → meaning_from who read false ≡ done ++ (kept_of kept ++ []) → IsDone who done taken calls
+  pub whole_going : (behind : List ℕ) (kept : Option SiteNotice) (done : List Notice) (taken : List ℕ) (calls : List Deposit) →
+      meaning_from who read false ≡ done ++ (kept_of kept ++ []) → IsDone who done taken calls
       → IsWhole who (going_session (read ++ behind) taken calls)
-  whole_going behind kept done taken calls means is = (going_link who read behind kept, refl, left_going behind kept done taken calls means is)
+  whole_going behind kept done taken calls means is =
+      (going_link who read behind kept, refl, left_going behind kept done taken calls means is)
 
-  pub idle_going : (done : List Notice) (taken : List ℕ) (calls : List Deposit) → meaning_from who read false ≡ done ++ [] → IsDone who done taken calls → IsIdle who (going_session (read ++ []) taken calls)
+  pub idle_going : (done : List Notice) (taken : List ℕ) (calls : List Deposit) → meaning_from who read false ≡ done ++ [] →
+      IsDone who done taken calls → IsIdle who (going_session (read ++ []) taken calls)
   idle_going done taken calls means is = (
     going_link who read [] None,
     refl,
@@ -141,7 +146,8 @@ new_over who = record { connection = refl; kept = refl; lost = refl }
 
 pub were_served : (who : Peer) (past : List Session) → HasPast (new_link who) past → All (WasServed who) past
 were_served who [] h = All-nil (WasServed who)
-were_served who (s ∷ ss) h = All-cons (WasServed who) s ss (record { link = new_link who; same = refl; over = new_over who; stands = h.0 }) h.1
+were_served who (s ∷ ss) h =
+    All-cons (WasServed who) s ss (record { link = new_link who; same = refl; over = new_over who; stands = h.0 }) h.1
 
 -- what holds of the newest connection
 pub of_newest : (P : Session → Type 0) (x s : Session) (xs ss : List Session) → x ∷ xs ≡ s ∷ ss → P x → P s

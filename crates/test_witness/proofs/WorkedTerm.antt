@@ -24,9 +24,11 @@ past_end : {A : Type 0} (x : A) → None ≡ Some x → ⊥
 past_end x h = cc
 
 -- the work of the actor whose states and ending these are
-work_of : (s0 s t0 t : StationState) (view : List Deposit) (e0 e : Ending) → Some s0 ≡ Some s → Some t0 ≡ Some t → Some e0 ≡ Some e → HasWorked s0 t0 view e0 → HasWorked s t view e
+work_of : (s0 s t0 t : StationState) (view : List Deposit) (e0 e : Ending) → Some s0 ≡ Some s → Some t0 ≡ Some t → Some e0 ≡ Some e →
+    HasWorked s0 t0 view e0 → HasWorked s t view e
 work_of s0 s t0 t view e0 e here there why works =
-    subst (λ x. HasWorked x t view e) (same_Some s0 s here) (subst (λ x. HasWorked s0 x view e) (same_Some t0 t there) (subst (λ x. HasWorked s0 t0 view x) (same_Some e0 e why) works))
+    subst (λ x. HasWorked x t view e) (same_Some s0 s here)
+    (subst (λ x. HasWorked s0 x view e) (same_Some t0 t there) (subst (λ x. HasWorked s0 t0 view x) (same_Some e0 e why) works))
 
 nobody : All (λ (entry : Entry). entry.actor < 4) journal
 nobody =
@@ -56,13 +58,20 @@ module _ (others : Settings) where
   abbrev end : End
   end = end_with others
 
-  carriers : (k : ℕ) (s t : StationState) (e : Ending) → slice_get start.stations k ≡ Some s → slice_get end.stations k ≡ Some t → slice_get end.ends k ≡ Some e → HasWorked s t (view_of k journal) e
+  carriers : (k : ℕ) (s t : StationState) (e : Ending) → slice_get start.stations k ≡ Some s → slice_get end.stations k ≡ Some t →
+      slice_get end.ends k ≡ Some e → HasWorked s t (view_of k journal) e
   carriers zero s t e here there why = work_of _ s _ t (view_of 0 journal) ending.Finished e here there why worked_0
   carriers (suc zero) s t e here there why = work_of _ s _ t (view_of 1 journal) ending.Finished e here there why worked_1
   carriers (suc (suc k)) s t e here there why = absurd (past_end s here)
 
   ticked : HasTicked start.pacer end.pacer (view_of 2 journal) ending.Finished
-  ticked = (deposit Tick ∷ [], refl, All-cons (λ (d : Deposit). d.event ≡ Tick) (deposit Tick) [] refl (All-nil (λ (d : Deposit). d.event ≡ Tick)), (refl, refl))
+  ticked = (
+    deposit Tick ∷ [],
+    refl,
+    All-cons (λ (d : Deposit). d.event ≡ Tick) (deposit Tick) [] refl
+        (All-nil (λ (d : Deposit). d.event ≡ Tick)),
+    (refl, refl),
+  )
 
   ticker : (e : Ending) → slice_get end.ends 2 ≡ Some e → HasTicked start.pacer end.pacer (view_of 2 journal) e
   ticker e why = subst (λ x. HasTicked start.pacer end.pacer (view_of 2 journal) x) (same_Some ending.Finished e why) ticked
@@ -106,7 +115,10 @@ module _ (others : Settings) where
     safe = record {
       free = (tt, (tt, (tt, (tt, (tt, (tt, tt))))));
       known = (tt, (tt, (tt, (tt, (tt, (tt, tt))))));
-      quiet = λ carrier has. ((λ reset. refl), ((λ reset. refl), ((λ reset. refl), ((λ reset. refl), ((λ reset. refl), ((λ reset. refl), tt))))));
+      quiet = λ carrier has. (
+        (λ reset. refl),
+        ((λ reset. refl), ((λ reset. refl), ((λ reset. refl), ((λ reset. refl), ((λ reset. refl), tt))))),
+      );
       own = (tt, (tt, (tt, (tt, (tt, (tt, tt))))));
     };
     within = omega arith;

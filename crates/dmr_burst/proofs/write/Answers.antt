@@ -22,7 +22,8 @@ returns-clause-is c = (
 pub returns-clause-alone : goal.returns-clause-alone
 returns-clause-alone c = λ word burst.
     let octets : burst.0 ≡ c.to_octets.result = c.to_octets.ensures.alone burst.0 burst.1.are_octets burst.1.spells in
-    c.encode.ensures.alone word (subst (λ octets. IsEncoding octets word) (ap with_check octets ∙ sym c.seal.ensures.is) burst.1.is_encoding)
+    c.encode.ensures.alone word (subst (λ octets. IsEncoding octets word)
+    (ap with_check octets ∙ sym c.seal.ensures.is) burst.1.is_encoding)
 
 pub returns-clause-burst : goal.returns-clause-burst
 unfolding burst_of

@@ -8,7 +8,8 @@ are_places : agree_below (λ n. get_or PLACES n 0 == 181 * n % 196) (λ _. true)
 are_places = refl
 
 place-is : (n : ℕ) → n < 196 → get_or PLACES n 0 ≡ 181 * n % 196
-place-is n lt = eqb-true (get_or PLACES n 0) (181 * n % 196) (agree_below_at (λ n. get_or PLACES n 0 == 181 * n % 196) (λ _. true) 196 n are_places lt)
+place-is n lt =
+    eqb-true (get_or PLACES n 0) (181 * n % 196) (agree_below_at (λ n. get_or PLACES n 0 == 181 * n % 196) (λ _. true) 196 n are_places lt)
 
 pub returns : goal.returns
 returns c = c.from.ensures ∙ place-is (1 + 15 * c.args.row + c.args.column) (omega arith)

@@ -14,7 +14,8 @@ unfolding added
 loop-k-init c = record { columns = refl; rows = refl; high = refl; low = refl }
 
 -- four bits in a number of 64 bits
-four_of_part : (bit : ℕ → Bool) (k j part : ℕ) → j < 16 → part ≡ bits_value bit (64 * k) 64 → bit_and (part / 2 ^ (60 - 4 * j)) 15 ≡ bits_value bit (4 * (16 * k + j)) 4
+four_of_part : (bit : ℕ → Bool) (k j part : ℕ) → j < 16 → part ≡ bits_value bit (64 * k) 64 →
+    bit_and (part / 2 ^ (60 - 4 * j)) 15 ≡ bits_value bit (4 * (16 * k + j)) 4
 four_of_part bit k j part lt is =
     and_mask (part / 2 ^ (60 - 4 * j)) 4
     ∙ ap (λ n. n / 2 ^ (60 - 4 * j) % 2 ^ 4) is
@@ -22,17 +23,21 @@ four_of_part bit k j part lt is =
 
 step : (word : List Bool) (number k j part sum : ℕ) → number < 4 → 16 * k + j < 49 → j < 16 → part ≡ bits_value (word_bit word) (64 * k) 64
     → sum ≡ added (word_bit word) (sum_number number) (4 * (16 * k + j))
-    → bit_xor sum (sum_entry number (16 * k + j) (bit_and (part / 2 ^ (60 - 4 * j)) 15)) ≡ added (word_bit word) (sum_number number) (4 * (16 * k + j + 1))
+    → bit_xor sum (sum_entry number (16 * k + j) (bit_and (part / 2 ^ (60 - 4 * j)) 15)) ≡ added (word_bit word) (sum_number number)
+    (4 * (16 * k + j + 1))
 step word number k j part sum number_lt group_lt lt is so_far =
-    let value : bit_and (part / 2 ^ (60 - 4 * j)) 15 ≡ bits_value (word_bit word) (4 * (16 * k + j)) 4 = four_of_part (word_bit word) k j part lt is in
+    let value : bit_and (part / 2 ^ (60 - 4 * j)) 15 ≡ bits_value (word_bit word) (4 * (16 * k + j)) 4 =
+    four_of_part (word_bit word) k j part lt is in
     let small : bit_and (part / 2 ^ (60 - 4 * j)) 15 < 16 = omega (arith, value, bits_value-lt (word_bit word) (4 * (16 * k + j)) 4) in
     ap (λ x. bit_xor x (sum_entry number (16 * k + j) (bit_and (part / 2 ^ (60 - 4 * j)) 15))) so_far
     ∙ added-four (word_bit word) (sum_number number) (16 * k + j) (sum_entry number (16 * k + j) (bit_and (part / 2 ^ (60 - 4 * j)) 15))
-    (sum_entry-is number (16 * k + j) (bit_and (part / 2 ^ (60 - 4 * j)) 15) number_lt group_lt small ∙ ap (added_by (sum_number number) (16 * k + j)) value)
+    (sum_entry-is number (16 * k + j) (bit_and (part / 2 ^ (60 - 4 * j)) 15) number_lt group_lt small
+    ∙ ap (added_by (sum_number number) (16 * k + j)) value)
 
 next : (word : List Bool) (number k j part sum : ℕ) → number < 4 → k < 3 → j < 16 → part ≡ bits_value (word_bit word) (64 * k) 64
     → sum ≡ added (word_bit word) (sum_number number) (4 * (16 * k + j))
-    → bit_xor sum (sum_entry number (16 * k + j) (bit_and (part / 2 ^ (60 - 4 * j)) 15)) ≡ added (word_bit word) (sum_number number) (4 * (16 * k + (j + 1)))
+    → bit_xor sum (sum_entry number (16 * k + j) (bit_and (part / 2 ^ (60 - 4 * j)) 15)) ≡ added (word_bit word) (sum_number number)
+    (4 * (16 * k + (j + 1)))
 next word number k j part sum number_lt k_lt lt is so_far =
     let e : 16 * k + j + 1 ≡ 16 * k + (j + 1) = omega arith in
     step word number k j part sum number_lt (omega arith) lt is so_far ∙ ap (λ n. added (word_bit word) (sum_number number) (4 * n)) e
@@ -48,19 +53,27 @@ last word number k part sum number_lt at_end is so_far =
 pub loop-j-preserved : goal.loop-j-preserved
 unfolding sum_entry
 loop-j-preserved c = record {
-  columns = next c.args.word.now 0 c.loop-k.k c.loop-j.j c.part-part.result c.loop-j.columns (omega arith) (omega arith) (omega arith) c.part-part.ensures.is c.loop-j.invariant.columns;
-  rows = next c.args.word.now 1 c.loop-k.k c.loop-j.j c.part-part.result c.loop-j.rows (omega arith) (omega arith) (omega arith) c.part-part.ensures.is c.loop-j.invariant.rows;
-  high = next c.args.word.now 2 c.loop-k.k c.loop-j.j c.part-part.result c.loop-j.high (omega arith) (omega arith) (omega arith) c.part-part.ensures.is c.loop-j.invariant.high;
-  low = next c.args.word.now 3 c.loop-k.k c.loop-j.j c.part-part.result c.loop-j.low (omega arith) (omega arith) (omega arith) c.part-part.ensures.is c.loop-j.invariant.low;
+  columns = next c.args.word.now 0 c.loop-k.k c.loop-j.j c.part-part.result c.loop-j.columns (omega arith) (omega arith)
+      (omega arith) c.part-part.ensures.is c.loop-j.invariant.columns;
+  rows = next c.args.word.now 1 c.loop-k.k c.loop-j.j c.part-part.result c.loop-j.rows (omega arith) (omega arith)
+      (omega arith) c.part-part.ensures.is c.loop-j.invariant.rows;
+  high = next c.args.word.now 2 c.loop-k.k c.loop-j.j c.part-part.result c.loop-j.high (omega arith) (omega arith)
+      (omega arith) c.part-part.ensures.is c.loop-j.invariant.high;
+  low = next c.args.word.now 3 c.loop-k.k c.loop-j.j c.part-part.result c.loop-j.low (omega arith) (omega arith)
+      (omega arith) c.part-part.ensures.is c.loop-j.invariant.low;
 }
 
 pub returns : goal.returns
 unfolding sum_entry
 returns c =
-    let columns = last c.args.word.now 0 c.loop-k.k c.part.result c.loop-k.columns (omega arith) (omega arith) c.part.ensures.is c.loop-k.invariant.columns in
-    let rows = last c.args.word.now 1 c.loop-k.k c.part.result c.loop-k.rows (omega arith) (omega arith) c.part.ensures.is c.loop-k.invariant.rows in
-    let high = last c.args.word.now 2 c.loop-k.k c.part.result c.loop-k.high (omega arith) (omega arith) c.part.ensures.is c.loop-k.invariant.high in
-    let low = last c.args.word.now 3 c.loop-k.k c.part.result c.loop-k.low (omega arith) (omega arith) c.part.ensures.is c.loop-k.invariant.low in
+    let columns = last c.args.word.now 0 c.loop-k.k c.part.result c.loop-k.columns (omega arith)
+    (omega arith) c.part.ensures.is c.loop-k.invariant.columns in
+    let rows = last c.args.word.now 1 c.loop-k.k c.part.result c.loop-k.rows (omega arith)
+    (omega arith) c.part.ensures.is c.loop-k.invariant.rows in
+    let high = last c.args.word.now 2 c.loop-k.k c.part.result c.loop-k.high (omega arith)
+    (omega arith) c.part.ensures.is c.loop-k.invariant.high in
+    let low =
+    last c.args.word.now 3 c.loop-k.k c.part.result c.loop-k.low (omega arith) (omega arith) c.part.ensures.is c.loop-k.invariant.low in
     record {
       len = c.part.ensures.len;
       columns = λ column lt. ap (λ n. n / 2 ^ (4 * column) % 16) columns ∙ columns-are c.args.word.now column lt;

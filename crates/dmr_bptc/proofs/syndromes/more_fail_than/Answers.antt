@@ -9,16 +9,33 @@ loop-init c = is_rest-all c.args.syndromes
 pub returns-then-rest-eq0 : goal.returns-then-rest-eq0
 returns-then-rest-eq0 c = (
   λ told. absurd (false≢true told),
-  λ more. absurd (omega (arith, more, is_rest-none c.args.syndromes c.loop.rest c.loop.counter c.loop.invariant c.if-rest-eq0.true, c.loop-test.true)),
+  λ more. absurd (omega (
+    arith,
+    more,
+    is_rest-none c.args.syndromes c.loop.rest c.loop.counter c.loop.invariant c.if-rest-eq0.true,
+    c.loop-test.true,
+  )),
 )
 
 pub loop-preserved : goal.loop-preserved
-loop-preserved c = is_rest-next c.args.syndromes c.loop.rest c.loop.counter c.loop.invariant c.ranges.syndromes.fits c.first_failing.result c.first_failing.ensures.before c.first_failing.ensures.fails
+loop-preserved c = is_rest-next c.args.syndromes c.loop.rest c.loop.counter c.loop.invariant c.ranges.syndromes.fits c.first_failing.result
+    c.first_failing.ensures.before c.first_failing.ensures.fails
 
 pub returns : goal.returns
 returns c = (
   λ told.
       let ne : c.loop.rest ≡ 0 → ⊥ = eqb-false c.loop.rest 0 (not-true (c.loop.rest == 0) told) in
-      omega (arith, is_rest-more c.args.syndromes c.loop.rest c.loop.counter c.loop.invariant c.ranges.syndromes.fits c.loop.auto.rest-fits.fits (omega arith), c.loop-test.false),
-  λ more. ap not (ne_eqb c.loop.rest 0 (λ e. absurd (omega (arith, more, is_rest-none c.args.syndromes c.loop.rest c.loop.counter c.loop.invariant e, c.loop.auto.counter-end)))),
+      omega (
+        arith,
+        is_rest-more c.args.syndromes c.loop.rest c.loop.counter c.loop.invariant c.ranges.syndromes.fits
+            c.loop.auto.rest-fits.fits (omega arith),
+        c.loop-test.false,
+      ),
+  λ more. ap not (ne_eqb c.loop.rest 0
+      (λ e. absurd (omega (
+        arith,
+        more,
+        is_rest-none c.args.syndromes c.loop.rest c.loop.counter c.loop.invariant e,
+        c.loop.auto.counter-end,
+      )))),
 )

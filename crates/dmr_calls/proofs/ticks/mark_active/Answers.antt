@@ -14,7 +14,8 @@ loop-place-preserved c =
     let here = rw c.as_slice.ensures.value at c.index-as_slice-place.is in
     let more = map_over_more (with_activity c.args.slot.now) c.args.calls.now calls c.loop-place.place active_call
     (omega arith) c.loop-place.invariant here in
-    let after : Bool → ActiveCall = λ on. if on then record { call = active_call.call; age = active_call.age; quiet = 0 } else active_call in
+    let after : Bool → ActiveCall = λ on. if on then record { call = active_call.call; age = active_call.age; quiet = 0 } else
+    active_call in
     let marked : with_activity c.args.slot.now active_call ≡ after c.is_on.result = ap after (sym c.is_on.ensures) in
     elim c.if-is_on.branch [
       | then-is_on w ↦ w.calls-is ∙ w.replace.ensures ∙ ap (set calls c.loop-place.place) (sym (marked ∙ ap after w.if-is_on.true)) ∙ more

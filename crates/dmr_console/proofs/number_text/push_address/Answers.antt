@@ -4,10 +4,12 @@ use Rattle.dmr_console.proofs.number_text.push_address.Goals as goal
 
 pub push_number-requires : goal.push_number-requires
 push_number-requires c =
-    let few : length (decimal c.from.result) ≤ 8 = length-decimal-le 8 c.from.result (omega arith) (omega (arith, c.from.ensures, c.get.ensures.range)) (omega (arith, c.from.ensures, c.get.ensures.range)) in
+    let few : length (decimal c.from.result) ≤ 8 = length-decimal-le 8 c.from.result (omega arith)
+    (omega (arith, c.from.ensures, c.get.ensures.range)) (omega (arith, c.from.ensures, c.get.ensures.range)) in
     omega (arith, few, c.requires)
 
 pub returns-clause-len : goal.returns-clause-len
 returns-clause-len c =
-    let few : length (decimal c.from.result) ≤ 8 = length-decimal-le 8 c.from.result (omega arith) (omega (arith, c.from.ensures, c.get.ensures.range)) (omega (arith, c.from.ensures, c.get.ensures.range)) in
+    let few : length (decimal c.from.result) ≤ 8 = length-decimal-le 8 c.from.result (omega arith)
+    (omega (arith, c.from.ensures, c.get.ensures.range)) (omega (arith, c.from.ensures, c.get.ensures.range)) in
     omega (arith, few, ap length c.push_number.ensures ∙ length-append c.args.text.now.bytes (decimal c.from.result))

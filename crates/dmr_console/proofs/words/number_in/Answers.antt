@@ -6,12 +6,14 @@ use Rattle.dmr_console.proofs.words.number_in.Goals as goal
 
 pub overflow_mul-number : goal.overflow_mul-number
 overflow_mul-number c =
-    let most : 10 ^ c.loop-octet.octet-index ≤ 10 ^ 7 = pow-le-pow_right {n = 10} (omega arith) {i = c.loop-octet.octet-index} {j = 7} (omega arith) in
+    let most : 10 ^ c.loop-octet.octet-index ≤ 10 ^ 7 =
+    pow-le-pow_right {n = 10} (omega arith) {i = c.loop-octet.octet-index} {j = 7} (omega arith) in
     omega (arith, c.loop-octet.invariant.small, most)
 
 pub overflow_add-number : goal.overflow_add-number
 overflow_add-number c =
-    let most : 10 ^ c.loop-octet.octet-index ≤ 10 ^ 7 = pow-le-pow_right {n = 10} (omega arith) {i = c.loop-octet.octet-index} {j = 7} (omega arith) in
+    let most : 10 ^ c.loop-octet.octet-index ≤ 10 ^ 7 =
+    pow-le-pow_right {n = 10} (omega arith) {i = c.loop-octet.octet-index} {j = 7} (omega arith) in
     omega (arith, c.loop-octet.invariant.small, most)
 
 pub loop-octet-preserved : goal.loop-octet-preserved
@@ -24,7 +26,8 @@ loop-octet-preserved c =
     let number : n * 10 + (get_or word i 0 - 48) ≡ n * 10 + c.from.result = ap (λ (d : ℕ). n * 10 + d) (sym x) in
     let P : ℕ → Type 0 = λ m. m < 10 ^ (i + 1) in
     record {
-      value = sym (digit_more n i word c.loop-octet-test.true digit ∙ ap (λ (m : ℕ). digits_value_after 10 m (drop (i + 1) word)) number) ∙ c.loop-octet.invariant.value;
+      value = sym (digit_more n i word c.loop-octet-test.true digit ∙ ap (λ (m : ℕ). digits_value_after 10 m (drop (i + 1) word)) number)
+          ∙ c.loop-octet.invariant.value;
       digits = sym (digits_more i word c.loop-octet-test.true c.if-not-is_ascii_digit.ensures.value) ∙ c.loop-octet.invariant.digits;
       small = subst P number (small_more n i (get_or word i 0) c.loop-octet.invariant.small digit);
     }

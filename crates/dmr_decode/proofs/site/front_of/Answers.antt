@@ -10,4 +10,5 @@ returns c =
     let front = c.as_slice.result.now in
     let spelled : front ≡ spelling_out c.in_ok-frame.frame = c.as_slice.ensures.value ∙ c.write_frame-spelling.ensures in
     let same : take (length front) octets ≡ front = (bytes_decides (take (length front) octets) front).0 told.0 in
-    sym (take-append-drop (length front) octets) ∙ ap (λ (xs : List ℕ). xs ++ drop (length front) octets) (same ∙ spelled) ∙ ap (λ (xs : List ℕ). spelling_out c.in_ok-frame.frame ++ xs) (sym told.1)
+    sym (take-append-drop (length front) octets) ∙ ap (λ (xs : List ℕ). xs ++ drop (length front) octets) (same ∙ spelled)
+    ∙ ap (λ (xs : List ℕ). spelling_out c.in_ok-frame.frame ++ xs) (sym told.1)

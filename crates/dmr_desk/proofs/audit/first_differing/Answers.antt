@@ -10,10 +10,12 @@ returns-then-ne c =
     let views = c.args.views.now.items in
     let place = c.loop-place.place in
     let deposits = c.as_slice-in-loop-place.result.now in
-    let here = view_at views c.as_slice.result.now place c.index-as_slice-place.result deposits c.as_slice.ensures.value (omega arith) c.index-as_slice-place.is c.as_slice-in-loop-place.ensures in (
+    let here = view_at views c.as_slice.result.now place c.index-as_slice-place.result deposits c.as_slice.ensures.value
+    (omega arith) c.index-as_slice-place.is c.as_slice-in-loop-place.ensures in (
       omega arith,
       omega arith,
-      differs_at c.args.from c.args.to views c.args.journal.now c.follow_some-turns.result place deposits None (omega arith) (omega arith) c.follow_some-turns.ensures here c.if-ne.ensures,
+      differs_at c.args.from c.args.to views c.args.journal.now c.follow_some-turns.result place deposits None (omega arith)
+          (omega arith) c.follow_some-turns.ensures here c.if-ne.ensures,
       c.loop-place.invariant,
     )
 
@@ -23,8 +25,10 @@ loop-place-preserved c actor low within =
     let journal = c.args.journal.now in
     let place = c.loop-place.place in
     let deposits = c.as_slice-in-loop-place.result.now in
-    let here = view_at views c.as_slice.result.now place c.index-as_slice-place.result deposits c.as_slice.ensures.value (omega arith) c.index-as_slice-place.is c.as_slice-in-loop-place.ensures in
-    let this = same_at c.args.from c.args.to views journal c.follow_some-turns.result place deposits None (omega arith) (omega arith) c.follow_some-turns.ensures here c.if-ne.ensures in
+    let here = view_at views c.as_slice.result.now place c.index-as_slice-place.result deposits c.as_slice.ensures.value
+    (omega arith) c.index-as_slice-place.is c.as_slice-in-loop-place.ensures in
+    let this = same_at c.args.from c.args.to views journal c.follow_some-turns.result place deposits None (omega arith)
+    (omega arith) c.follow_some-turns.ensures here c.if-ne.ensures in
     elim (cases_lt actor place) [
       | inl before ↦ c.loop-place.invariant actor low before
       | inr at ↦

@@ -15,13 +15,22 @@ loop-place-preserved c =
     let turns = c.loop-place.turns in
     let entry = c.index-journal-place.result in
     let P : List (Option ℕ) → Type 0 = λ ts. AllFollow c.args.from c.args.to views journal (place + 1) ts in
-    let known = c.actors_of-actors.ensures place entry (omega arith) (omega arith) (at_place journal place entry (omega arith) c.index-journal-place.is) in
-    let own : c.from-actor.result ≡ entry.actor = c.from-actor.ensures ∙ get_or_from_slice_get c.actors_of-actors.result (place - c.args.start) entry.actor 0 known in
+    let known = c.actors_of-actors.ensures place entry (omega arith) (omega arith)
+    (at_place journal place entry (omega arith) c.index-journal-place.is) in
+    let own : c.from-actor.result ≡ entry.actor =
+    c.from-actor.ensures ∙ get_or_from_slice_get c.actors_of-actors.result (place - c.args.start) entry.actor 0 known in
     elim c.if-is_among.branch [
       | then-is_among w ↦
           let among = c.is_among.ensures.0 w.if-is_among.true in
-          let here = view_at views w.as_slice.result.now c.from-actor.result w.index-as_slice-actor.result w.as_slice-then-is_among.result.now w.as_slice.ensures.value (omega arith) w.index-as_slice-actor.is w.as_slice-then-is_among.ensures in
-          subst P (sym w.turns-is) (all_follow_one c.args.from c.args.to views journal place turns entry c.from-actor.result w.as_slice-then-is_among.result.now None w.follow.result among.0 among.1 c.loop-place.invariant (omega arith) c.index-journal-place.is own here (w.follow.ensures journal place (omega arith) c.index-journal-place.is))
+          let here = view_at views w.as_slice.result.now c.from-actor.result w.index-as_slice-actor.result
+          w.as_slice-then-is_among.result.now w.as_slice.ensures.value
+          (omega arith) w.index-as_slice-actor.is w.as_slice-then-is_among.ensures in
+          subst P (sym w.turns-is) (all_follow_one c.args.from c.args.to views journal place turns entry c.from-actor.result
+          w.as_slice-then-is_among.result.now None w.follow.result among.0 among.1 c.loop-place.invariant
+          (omega arith) c.index-journal-place.is own here (w.follow.ensures journal place (omega arith) c.index-journal-place.is))
       | else-is_among w ↦
-          subst P (sym w.turns-is) (all_pass c.args.from c.args.to views journal place turns entry c.loop-place.invariant (omega arith) c.index-journal-place.is (λ both. absurd (let no : false ≡ true = subst (λ (b : Bool). IsTrue b) w.if-is_among.false (c.is_among.ensures.1 (omega (arith, both.0, own), omega (arith, both.1, own))) in cc)))
+          subst P (sym w.turns-is) (all_pass c.args.from c.args.to views journal place turns entry c.loop-place.invariant
+          (omega arith) c.index-journal-place.is
+          (λ both. absurd (let no : false ≡ true = subst (λ (b : Bool). IsTrue b) w.if-is_among.false
+          (c.is_among.ensures.1 (omega (arith, both.0, own), omega (arith, both.1, own))) in cc)))
     ]

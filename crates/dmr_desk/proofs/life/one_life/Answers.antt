@@ -50,10 +50,12 @@ pub returns-clause-ticker : goal.returns-clause-ticker
 returns-clause-ticker c = ticker_works
 
 pub returns-clause-meaning : goal.returns-clause-meaning
-returns-clause-meaning c = λ m n past terms went stands. c.one_meaning.ensures.stands n.at.link (past_after_terms past terms) (went.stands past stands)
+returns-clause-meaning c = λ m n past terms went stands. c.one_meaning.ensures.stands n.at.link (past_after_terms past terms)
+    (went.stands past stands)
 
 pub returns-clause-records : goal.returns-clause-records
-returns-clause-records c = λ m n past terms went stands. records_of_terms c.one_record.ensures.steps m.at.link.who past terms (went.orderly past stands)
+returns-clause-records c = λ m n past terms went stands. records_of_terms c.one_record.ensures.steps m.at.link.who past terms
+    (went.orderly past stands)
 
 pub returns-clause-since : goal.returns-clause-since
 returns-clause-since c = answers_since

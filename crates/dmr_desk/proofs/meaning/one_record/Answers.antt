@@ -11,7 +11,8 @@ pub returns-clause-since : goal.returns-clause-since
 returns-clause-since c = λ m n past steps begun whole went stands before after.
     let law = c.records_read.ensures in
     let laws : RecordLaws = record { begun = law.begun; paused = law.paused; writing = law.writing; reads = law.reads } in
-    record_since laws m.at.link.who past steps begun whole (went.orderly past stands) m.at.reported n.at.reported went.happens.port before after
+    record_since laws m.at.link.who past steps begun whole (went.orderly past stands) m.at.reported n.at.reported went.happens.port before
+    after
 
 pub returns-clause-whole : goal.returns-clause-whole
 returns-clause-whole c = λ m n steps whole went stands before after.

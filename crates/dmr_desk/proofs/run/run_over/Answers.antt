@@ -8,14 +8,16 @@ use Rattle.dmr_desk.proofs.run.run_over.Goals as goal
 pub close_term-requires-clause-actors : goal.close_term-requires-clause-actors
 close_term-requires-clause-actors g c κs within =
     let all = c.in-Some.all in
-    let many : vec_len all.carriers ≡ vec_len c.args.service.stations = all.carriers.ok.0 ∙ all_done_length _ _ _ _ c.in-Some.ensures.carriers ∙ sym c.args.service.stations.ok.0 in
+    let many : vec_len all.carriers ≡ vec_len c.args.service.stations =
+    all.carriers.ok.0 ∙ all_done_length _ _ _ _ c.in-Some.ensures.carriers ∙ sym c.args.service.stations.ok.0 in
     let same = ap (λ (d : Opened). d.actors) c.in-Ok-open_with.ensures.desk in
     let count = c.len-count.ensures in omega arith
 
 pub close_term-requires-clause-room : goal.close_term-requires-clause-room
 close_term-requires-clause-room g c κs within =
     let all = c.in-Some.all in
-    let many : vec_len all.carriers ≡ vec_len c.args.service.stations = all.carriers.ok.0 ∙ all_done_length _ _ _ _ c.in-Some.ensures.carriers ∙ sym c.args.service.stations.ok.0 in
+    let many : vec_len all.carriers ≡ vec_len c.args.service.stations =
+    all.carriers.ok.0 ∙ all_done_length _ _ _ _ c.in-Some.ensures.carriers ∙ sym c.args.service.stations.ok.0 in
     let P : ℕ → Type 0 = λ n. HasRoom n c.in-Ok.back in
     subst P (c.len-count.ensures ∙ sym many) c.in-Ok.ensures.back
 

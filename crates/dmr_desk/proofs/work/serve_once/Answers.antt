@@ -7,18 +7,24 @@ returns-then-over-clause-goes g c = λ m h. going_over m _ _ (same_calls IsAtWor
 
 pub returns-in-Idle-clause-goes : goal.returns-in-Idle-clause-goes
 returns-in-Idle-clause-goes g c = λ m h.
-    c.wait_for_port.ensures.goes m (went_idle m _ _ (same_calls IsAtWork m _ _ _ _ c.over.ensures.calls h) (unquestioned _ _ _ c.serve.ensures.questions c.over.ensures.questions) c.requires c.in-Idle.ensures.serves)
+    c.wait_for_port.ensures.goes m (went_idle m _ _ (same_calls IsAtWork m _ _ _ _ c.over.ensures.calls h)
+    (unquestioned _ _ _ c.serve.ensures.questions c.over.ensures.questions) c.requires c.in-Idle.ensures.serves)
 
 pub returns-in-TermOver-clause-goes : goal.returns-in-TermOver-clause-goes
-returns-in-TermOver-clause-goes g c = λ m h. went_refused m _ _ (same_calls IsAtWork m _ _ _ _ c.over.ensures.calls h) (unquestioned _ _ _ c.serve.ensures.questions c.over.ensures.questions) c.requires c.in-TermOver.ensures.serves
+returns-in-TermOver-clause-goes g c = λ m h. went_refused m _ _ (same_calls IsAtWork m _ _ _ _ c.over.ensures.calls h)
+    (unquestioned _ _ _ c.serve.ensures.questions c.over.ensures.questions) c.requires c.in-TermOver.ensures.serves
 
 pub returns-in-GateShut-clause-goes : goal.returns-in-GateShut-clause-goes
-returns-in-GateShut-clause-goes g c = λ m h. went_shut m _ _ (same_calls IsAtWork m _ _ _ _ c.over.ensures.calls h) (unquestioned _ _ _ c.serve.ensures.questions c.over.ensures.questions) c.requires c.in-GateShut.ensures.serves
+returns-in-GateShut-clause-goes g c = λ m h. went_shut m _ _ (same_calls IsAtWork m _ _ _ _ c.over.ensures.calls h)
+    (unquestioned _ _ _ c.serve.ensures.questions c.over.ensures.questions) c.requires c.in-GateShut.ensures.serves
 
 pub returns-in-Paused-clause-goes : goal.returns-in-Paused-clause-goes
-returns-in-Paused-clause-goes g c = λ m h. went_paused m _ _ (same_calls IsAtWork m _ _ _ _ c.over.ensures.calls h) (unquestioned _ _ _ c.serve.ensures.questions c.over.ensures.questions) c.requires c.in-Paused.ensures.serves
+returns-in-Paused-clause-goes g c = λ m h. went_paused m _ _ (same_calls IsAtWork m _ _ _ _ c.over.ensures.calls h)
+    (unquestioned _ _ _ c.serve.ensures.questions c.over.ensures.questions) c.requires c.in-Paused.ensures.serves
 
 pub returns-in_default-clause-goes : goal.returns-in_default-clause-goes
 returns-in_default-clause-goes g c = λ m h.
     same_station_state m _ _ _ _ c.report_closing.ensures
-    (went_closed m _ _ _ (same_calls IsAtWork m _ _ _ _ c.over.ensures.calls h) (unquestioned _ _ _ c.serve.ensures.questions c.over.ensures.questions) c.requires c.serve.ensures.serves c.in_default.not-Idle c.in_default.not-TermOver c.in_default.not-GateShut c.in_default.not-Paused)
+    (went_closed m _ _ _ (same_calls IsAtWork m _ _ _ _ c.over.ensures.calls h)
+    (unquestioned _ _ _ c.serve.ensures.questions c.over.ensures.questions) c.requires c.serve.ensures.serves c.in_default.not-Idle
+    c.in_default.not-TermOver c.in_default.not-GateShut c.in_default.not-Paused)

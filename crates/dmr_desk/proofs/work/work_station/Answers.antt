@@ -10,7 +10,8 @@ loop-init g c = record { going = going_from (moment_of g.S.Serving g.D.Desk c.ar
 
 pub loop-preserved : goal.loop-preserved
 loop-preserved g c =
-    let step : Goes IsAtWork g.S.Serving g.D.Desk c.loop.station c.loop.desk c.if-live.station c.if-live.desk c.if-live.ended = elim c.if-live.branch [
+    let step : Goes IsAtWork g.S.Serving g.D.Desk c.loop.station c.loop.desk c.if-live.station c.if-live.desk c.if-live.ended =
+    elim c.if-live.branch [
       | then-live w ↦ rw (w.station-is, w.desk-is, w.ended-is) w.serve_once-ended.ensures.goes
       | else-live w ↦ rw (w.station-is, w.desk-is, w.ended-is) w.ask_for_connection-ended.ensures.goes
     ] in
@@ -22,7 +23,8 @@ loop-preserved g c =
 
 pub returns-in-Some-ended-clause-works : goal.returns-in-Some-ended-clause-works
 returns-in-Some-ended-clause-works g c =
-    let step : Goes IsAtWork g.S.Serving g.D.Desk c.loop.station c.loop.desk c.if-live.station c.if-live.desk c.if-live.ended = elim c.if-live.branch [
+    let step : Goes IsAtWork g.S.Serving g.D.Desk c.loop.station c.loop.desk c.if-live.station c.if-live.desk c.if-live.ended =
+    elim c.if-live.branch [
       | then-live w ↦ rw (w.station-is, w.desk-is, w.ended-is) w.serve_once-ended.ensures.goes
       | else-live w ↦ rw (w.station-is, w.desk-is, w.ended-is) w.ask_for_connection-ended.ensures.goes
     ] in

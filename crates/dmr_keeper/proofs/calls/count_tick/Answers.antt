@@ -9,4 +9,5 @@ pub loop-call-preserved : goal.loop-call-preserved
 loop-call-preserved c =
     let read : OpenCall = get_or c.loop-call.calls c.loop-call.call-index c.call-item.result in
     let same = get_or_default c.loop-call.calls c.loop-call.call-index c.call-item.result read (omega arith) in
-    rw c.counted.ensures (map_over_more one_tick_on c.args.calls.now c.loop-call.calls c.loop-call.call-index read (omega arith) c.loop-call.invariant same)
+    rw c.counted.ensures (map_over_more one_tick_on c.args.calls.now c.loop-call.calls c.loop-call.call-index read
+    (omega arith) c.loop-call.invariant same)

@@ -9,4 +9,5 @@ pub loop-call-preserved : goal.loop-call-preserved
 loop-call-preserved c =
     let read : OpenCall = get_or c.loop-call.calls c.loop-call.call-index c.call-item.result in
     let same = get_or_default c.loop-call.calls c.loop-call.call-index c.call-item.result read (omega arith) in
-    rw c.marked.ensures (map_over_more (with_activity_on c.args.slot.now) c.args.calls.now c.loop-call.calls c.loop-call.call-index read (omega arith) c.loop-call.invariant same)
+    rw c.marked.ensures (map_over_more (with_activity_on c.args.slot.now) c.args.calls.now c.loop-call.calls c.loop-call.call-index read
+    (omega arith) c.loop-call.invariant same)

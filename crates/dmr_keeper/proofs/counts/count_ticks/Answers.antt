@@ -9,5 +9,6 @@ use Rattle.dmr_keeper.proofs.counts.count_ticks.Goals as goal
 pub returns : goal.returns
 returns c =
     let all = YieldsList-at c.filter.ensures.source (YieldsList-from_slice c.args.journal.now c.iter.ensures.rest) in
-    count_from_yields_List c.filter.result _ c.count.ensures.ran (YieldsList-from_filter _ (λ (e : Entry). is_tick e.event) all c.filter.ensures.closure (λ x b q k. search (rules, tests)))
+    count_from_yields_List c.filter.result _ c.count.ensures.ran
+    (YieldsList-from_filter _ (λ (e : Entry). is_tick e.event) all c.filter.ensures.closure (λ x b q k. search (rules, tests)))
     ∙ length-filter (λ (e : Entry). is_tick e.event) c.args.journal.now

@@ -21,4 +21,5 @@ returns-in_err-hand_oldest-clause-handed g c = handed_on _ _ _ _ _ _ c.loop-term
 pub returns-in_err-hand_oldest-clause-refused : goal.returns-in_err-hand_oldest-clause-refused
 returns-in_err-hand_oldest-clause-refused g c =
     let err : c.from_residual.result ≡ Err c.in_err-hand_oldest.field-0.0 = search rules in
-    rw err (refused_on g.K.Keeper.kept g.K.Keeper.refuses _ _ _ _ _ c.in_err-hand_oldest.field-0.0 c.loop-terms.invariant.handed c.in_err-hand_oldest.ensures.refused)
+    rw err (refused_on g.K.Keeper.kept g.K.Keeper.refuses _ _ _ _ _ c.in_err-hand_oldest.field-0.0 c.loop-terms.invariant.handed
+    c.in_err-hand_oldest.ensures.refused)

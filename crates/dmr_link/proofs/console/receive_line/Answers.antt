@@ -16,7 +16,8 @@ loop-octet-preserved c =
     let old = c.loop-octet in
     record {
       counted = ap (λ (n : ℕ). n + 1) old.invariant.counted;
-      cutter = c.feed_byte.ensures.rest ∙ sym (left_by_one c.args.cutter.now old.cutter octets i c.loop-octet-test.true old.invariant.cutter);
+      cutter =
+          c.feed_byte.ensures.rest ∙ sym (left_by_one c.args.cutter.now old.cutter octets i c.loop-octet-test.true old.invariant.cutter);
       silent =
           said_by_one c.args.cutter.now old.cutter octets i c.loop-octet-test.true old.invariant.cutter old.invariant.silent
           ∙ ap (λ (step : LineStep). line_means step) (sym c.feed_byte.ensures.step)
@@ -43,7 +44,9 @@ returns-in_default-clause-cutter c =
     ∙ ap (λ (n : ℕ). open_line_after c.args.cutter.now (take (n + 1) octets)) (sym old.invariant.counted)
 
 pub returns-clause-notice : goal.returns-clause-notice
-returns-clause-notice c = ap (λ (n : ℕ). said_from c.args.cutter.now (take n c.args.octets.now)) c.loop-octet.invariant.counted ∙ c.loop-octet.invariant.silent
+returns-clause-notice c =
+    ap (λ (n : ℕ). said_from c.args.cutter.now (take n c.args.octets.now)) c.loop-octet.invariant.counted ∙ c.loop-octet.invariant.silent
 
 pub returns-clause-cutter : goal.returns-clause-cutter
-returns-clause-cutter c = c.loop-octet.invariant.cutter ∙ ap (λ (n : ℕ). open_line_after c.args.cutter.now (take n c.args.octets.now)) (sym c.loop-octet.invariant.counted)
+returns-clause-cutter c = c.loop-octet.invariant.cutter ∙ ap (λ (n : ℕ). open_line_after c.args.cutter.now (take n c.args.octets.now))
+    (sym c.loop-octet.invariant.counted)

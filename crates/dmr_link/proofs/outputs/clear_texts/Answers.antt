@@ -7,4 +7,5 @@ pub loop-text-preserved : goal.loop-text-preserved
 loop-text-preserved c =
     let read : List ℕ = get_or c.loop-text.texts c.loop-text.text-index [] in
     let same = get_or_default c.loop-text.texts c.loop-text.text-index [] read (omega arith) in
-    rw c.clear.ensures.items (map_over_more (λ (text : List ℕ). let none : List ℕ = [] in none) c.args.texts.now c.loop-text.texts c.loop-text.text-index read (omega arith) c.loop-text.invariant same)
+    rw c.clear.ensures.items (map_over_more (λ (text : List ℕ). let none : List ℕ = [] in none) c.args.texts.now c.loop-text.texts
+    c.loop-text.text-index read (omega arith) c.loop-text.invariant same)

@@ -17,10 +17,13 @@ loop-from-preserved c =
     let left = c.receive-count.ensures.connection ∙ ap (λ (xs : List ℕ). connection_after_octets who k (take n xs)) rest in
     record {
       within = omega (arith, count, ap length rest, c.loop-from.invariant.within, length-drop {A = ℕ} i octets);
-      room = room_more who c.loop-from.numbered c.is_numbered_after-numbered.result k c.receive-count.new.self octets i n _ c.loop-from.room c.most_for_notice.result c.saturating_add-room.result _
-          brings left c.is_numbered_after-numbered.ensures c.most_for_notice.ensures c.saturating_add-room.ensures c.loop-from.invariant.room;
+      room = room_more who c.loop-from.numbered c.is_numbered_after-numbered.result k c.receive-count.new.self octets i n _ c.loop-from.room
+          c.most_for_notice.result c.saturating_add-room.result _
+          brings left c.is_numbered_after-numbered.ensures c.most_for_notice.ensures c.saturating_add-room.ensures
+          c.loop-from.invariant.room;
       fits = omega (arith, c.saturating_add-room.type_inv);
     }
 
 pub returns : goal.returns
-returns c = room_whole c.loop-from.room c.args.who.now c.loop-from.numbered c.loop-from.trial c.args.octets.now c.loop-from.from _ c.loop-from-test.false c.loop-from.invariant.fits c.loop-from.invariant.room
+returns c = room_whole c.loop-from.room c.args.who.now c.loop-from.numbered c.loop-from.trial c.args.octets.now c.loop-from.from _
+    c.loop-from-test.false c.loop-from.invariant.fits c.loop-from.invariant.room

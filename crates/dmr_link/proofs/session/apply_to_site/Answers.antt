@@ -21,4 +21,8 @@ returns-clause-site c =
     let plan = c.args.site.now.plan in
     let facts = c.args.site.now.facts in
     c.apply_to.ensures.facts
-    ∙ (λ i. record { plan = plan; facts = facts_after plan facts (unattributed_entry c.args.event.now (record { list = c.apply_to.ensures.acts i; said = c.apply_to.ensures.said i }) ∷ []) })
+    ∙ (λ i. record {
+      plan = plan;
+      facts = facts_after plan facts
+          (unattributed_entry c.args.event.now (record { list = c.apply_to.ensures.acts i; said = c.apply_to.ensures.said i }) ∷ []);
+    })

@@ -13,19 +13,25 @@ loop-from-init g c = record { putting = putting_none _; within = omega arith; pa
 
 pub returns-then-count-eq0 : goal.returns-then-count-eq0
 returns-then-count-eq0 g c =
-    writes_nothing _ _ _ c.args.octets.now _ c.loop-from.from c.in-Octets.count c.loop-from.row c.loop-from.invariant.putting c.in-Octets.ensures.reported c.loop-from-test.true c.if-count-eq0.true
+    writes_nothing _ _ _ c.args.octets.now _ c.loop-from.from c.in-Octets.count c.loop-from.row c.loop-from.invariant.putting
+    c.in-Octets.ensures.reported c.loop-from-test.true c.if-count-eq0.true
 
 pub loop-from-preserved-in-Octets : goal.loop-from-preserved-in-Octets
 loop-from-preserved-in-Octets g c = record {
-  putting = putting_on _ _ _ c.args.octets.now _ c.loop-from.from c.in-Octets.count _ (take_rest c.args.octets.now c.loop-from.from) c.loop-from.invariant.putting c.in-Octets.ensures.reported (omega arith) c.in-Octets.ensures.within;
-  within = let few : c.in-Octets.count ≤ length (drop c.loop-from.from c.args.octets.now) = rw (take_rest c.args.octets.now c.loop-from.from) at c.in-Octets.ensures.within in omega (arith, few, length-drop c.loop-from.from c.args.octets.now);
+  putting = putting_on _ _ _ c.args.octets.now _ c.loop-from.from c.in-Octets.count _
+      (take_rest c.args.octets.now c.loop-from.from) c.loop-from.invariant.putting c.in-Octets.ensures.reported
+      (omega arith) c.in-Octets.ensures.within;
+  within = let few : c.in-Octets.count ≤ length (drop c.loop-from.from c.args.octets.now) = rw
+      (take_rest c.args.octets.now c.loop-from.from) at c.in-Octets.ensures.within in
+      omega (arith, few, length-drop c.loop-from.from c.args.octets.now);
   patient = omega arith;
   whole = λ h. refl;
 }
 
 pub returns-then-row-eq-MOST_INTERRUPTIONS : goal.returns-then-row-eq-MOST_INTERRUPTIONS
 returns-then-row-eq-MOST_INTERRUPTIONS g c =
-    writes_part _ _ _ c.args.octets.now c.loop-from.from c.loop-from.row WriteInterrupted c.loop-from.invariant.putting c.in-Interrupted.ensures.reported c.loop-from-test.true (fault_impatient c.loop-from.row c.if-row-eq-MOST_INTERRUPTIONS.true)
+    writes_part _ _ _ c.args.octets.now c.loop-from.from c.loop-from.row WriteInterrupted c.loop-from.invariant.putting
+    c.in-Interrupted.ensures.reported c.loop-from-test.true (fault_impatient c.loop-from.row c.if-row-eq-MOST_INTERRUPTIONS.true)
 
 pub loop-from-preserved : goal.loop-from-preserved
 loop-from-preserved g c = record {
@@ -37,12 +43,15 @@ loop-from-preserved g c = record {
 
 pub returns-in-Block : goal.returns-in-Block
 returns-in-Block g c =
-    writes_part _ _ _ c.args.octets.now c.loop-from.from c.loop-from.row WriteBlocked c.loop-from.invariant.putting c.in-Block.ensures.reported c.loop-from-test.true (fault_blocked c.loop-from.row)
+    writes_part _ _ _ c.args.octets.now c.loop-from.from c.loop-from.row WriteBlocked c.loop-from.invariant.putting
+    c.in-Block.ensures.reported c.loop-from-test.true (fault_blocked c.loop-from.row)
 
 pub returns-in-Fault : goal.returns-in-Fault
 returns-in-Fault g c =
-    writes_part _ _ _ c.args.octets.now c.loop-from.from c.loop-from.row WriteFailed c.loop-from.invariant.putting c.in-Fault.ensures.reported c.loop-from-test.true (fault_failed c.loop-from.row)
+    writes_part _ _ _ c.args.octets.now c.loop-from.from c.loop-from.row WriteFailed c.loop-from.invariant.putting
+    c.in-Fault.ensures.reported c.loop-from-test.true (fault_failed c.loop-from.row)
 
 pub returns : goal.returns
 returns g c =
-    writes_end _ _ c.args.octets.now c.loop-from.from c.loop-from.row c.loop-from.invariant.putting c.loop-from-test.false (c.loop-from.invariant.whole c.loop-from-test.false) (some_octets _ c.if-is_empty.ensures)
+    writes_end _ _ c.args.octets.now c.loop-from.from c.loop-from.row c.loop-from.invariant.putting c.loop-from-test.false
+    (c.loop-from.invariant.whole c.loop-from-test.false) (some_octets _ c.if-is_empty.ensures)

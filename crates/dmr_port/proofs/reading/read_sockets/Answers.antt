@@ -26,7 +26,8 @@ returns-then-not-note_octets-clause-log g c =
     let state = g.S.Sockets.state in
     let parts = or_parts c.args.is_carrier (not (begins_http new.first.octets.items)) (sym c.note_octets.ensures.given ∙ off) in
     let kept = first_kept c.ask-got.result c.min-asked.result old c.note_read.new.self c.note_read.ensures in
-    reads_http c.args.is_carrier old.first.octets.items new.first.octets.items octets c.in-Octets.count (state c.args.sockets.now).log (state c.now-now.new.self).log (state c.ask-got.new.sockets).log
+    reads_http c.args.is_carrier old.first.octets.items new.first.octets.items octets c.in-Octets.count (state c.args.sockets.now).log
+    (state c.now-now.new.self).log (state c.ask-got.new.sockets).log
     c.now-now.ensures.connection.log c.in-Octets.ensures.log
     (c.note_octets.ensures.first ∙ ap (λ (xs : List ℕ). take 8 (xs ++ take c.in-Octets.count octets)) kept)
     parts.0 (not-false (begins_http new.first.octets.items) parts.1)

@@ -12,7 +12,8 @@ returns-in-Err-clause-fault c =
     let k = c.loop-place.place in
     let entry = c.index-journal-place.result in
     let here = event_at c.args.journal.now k entry (omega arith) c.index-journal-place.is in
-    first_fault c.args.plan.now c.args.up.now c.loop-place.draft.up k entry.event (drop k events) (drop (k + 1) events) events c.in-Err.fault here c.loop-place.invariant.4 c.in-Err.ensures.fault
+    first_fault c.args.plan.now c.args.up.now c.loop-place.draft.up k entry.event (drop k events)
+    (drop (k + 1) events) events c.in-Err.fault here c.loop-place.invariant.4 c.in-Err.ensures.fault
 
 pub loop-place-preserved : goal.loop-place-preserved
 loop-place-preserved c =
@@ -28,6 +29,8 @@ loop-place-preserved c =
       c.add_event.ensures.ticks,
       did.lines rest ∙ ap (whole plan old) (sym here) ∙ before.1,
       ap (λ (up : List Bool). up_after_all up rest) did.up ∙ ap (up_after_all old.up) (sym here) ∙ before.2,
-      λ are. before.3 (subst (AreRecordable plan old.up) (sym here) (did.recordable, subst (λ (up : List Bool). AreRecordable plan up rest) did.up are)),
-      λ fault is. before.4 fault (subst (λ (es : List Event). IsFirstFault plan old.up k es fault) (sym here) (inr (did.recordable, subst (λ (up : List Bool). IsFirstFault plan up (k + 1) rest fault) did.up is))),
+      λ are. before.3 (subst (AreRecordable plan old.up) (sym here)
+          (did.recordable, subst (λ (up : List Bool). AreRecordable plan up rest) did.up are)),
+      λ fault is. before.4 fault (subst (λ (es : List Event). IsFirstFault plan old.up k es fault) (sym here)
+          (inr (did.recordable, subst (λ (up : List Bool). IsFirstFault plan up (k + 1) rest fault) did.up is))),
     )

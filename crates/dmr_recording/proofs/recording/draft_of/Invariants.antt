@@ -12,4 +12,5 @@ invariant-loop-place l =
     × (whole l.plan l.draft (drop l.place (events_of l.journal)) ≡ text_of (inputs_of_events l.plan (events_of l.journal)))
     × (up_after_all l.draft.up (drop l.place (events_of l.journal)) ≡ up_after_all l.up (events_of l.journal))
     × (AreRecordable l.plan l.draft.up (drop l.place (events_of l.journal)) → AreRecordable l.plan l.up (events_of l.journal))
-    × ((fault : RecordingFault) → IsFirstFault l.plan l.draft.up l.place (drop l.place (events_of l.journal)) fault → IsFirstFault l.plan l.up 0 (events_of l.journal) fault)
+    × ((fault : RecordingFault) → IsFirstFault l.plan l.draft.up l.place (drop l.place (events_of l.journal)) fault →
+    IsFirstFault l.plan l.up 0 (events_of l.journal) fault)

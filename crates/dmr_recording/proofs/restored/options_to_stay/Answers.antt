@@ -13,4 +13,11 @@ bit_fits o k is within =
     omega (arith, whole, small)
 
 pub new-requires : goal.new-requires
-new-requires c = (omega arith, (bit_fits c.args.plan.now.system.leave_bit c.in-Some.bit c.in-Some.ensures c.use_invariant.ensures.system.leave_bit, omega arith))
+new-requires c = (
+  omega arith,
+  (
+    bit_fits c.args.plan.now.system.leave_bit c.in-Some.bit c.in-Some.ensures
+        c.use_invariant.ensures.system.leave_bit,
+    omega arith,
+  ),
+)

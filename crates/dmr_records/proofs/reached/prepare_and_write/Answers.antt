@@ -5,14 +5,18 @@ use Rattle.dmr_records.proofs.reached.prepare_and_write.Goals as goal
 
 pub returns-clause-written : goal.returns-clause-written
 returns-clause-written g c =
-    writes_term g.S.Store c.args.conn.now c.prepare_tables.new.conn c.write_term.new.conn c.in_ok-prepare_tables.ensures.prepared c.args.most c.args.term.now c.write_term.result (λ clean. omega (arith, c.write_term.ensures.crash.clean)) c.write_term.ensures.all
+    writes_term g.S.Store c.args.conn.now c.prepare_tables.new.conn c.write_term.new.conn c.in_ok-prepare_tables.ensures.prepared
+    c.args.most c.args.term.now c.write_term.result (λ clean. omega (arith, c.write_term.ensures.crash.clean)) c.write_term.ensures.all
 
 pub returns-clause-not_written : goal.returns-clause-not_written
 returns-clause-not_written g c =
-    fails_over g.S.Store c.args.conn.now c.prepare_tables.new.conn c.write_term.new.conn c.in_ok-prepare_tables.ensures.prepared (IsNotWritten g.S.Store c.args.most c.args.term.now) c.write_term.result (λ clean. omega (arith, c.write_term.ensures.crash.clean)) c.write_term.ensures.failed c.write_term.ensures.nothing
+    fails_over g.S.Store c.args.conn.now c.prepare_tables.new.conn c.write_term.new.conn c.in_ok-prepare_tables.ensures.prepared
+    (IsNotWritten g.S.Store c.args.most c.args.term.now) c.write_term.result
+    (λ clean. omega (arith, c.write_term.ensures.crash.clean)) c.write_term.ensures.failed c.write_term.ensures.nothing
 
 pub returns-clause-crash : goal.returns-clause-crash
-returns-clause-crash g c = may_keep g.S.Store c.args.conn.now c.prepare_tables.new.conn c.write_term.new.conn c.in_ok-prepare_tables.ensures.prepared c.args.most c.args.term.now c.prepare_tables.ensures.crash c.write_term.ensures.crash
+returns-clause-crash g c = may_keep g.S.Store c.args.conn.now c.prepare_tables.new.conn c.write_term.new.conn
+    c.in_ok-prepare_tables.ensures.prepared c.args.most c.args.term.now c.prepare_tables.ensures.crash c.write_term.ensures.crash
 
 pub returns-in_err-prepare_tables-clause-not_written : goal.returns-in_err-prepare_tables-clause-not_written
 returns-in_err-prepare_tables-clause-not_written g c clean =

@@ -5,7 +5,8 @@ use Rattle.dmr_records.proofs.written.put_radios.Goals as goal
 
 pub returns-clause-ran : goal.returns-clause-ran
 returns-clause-ran g c =
-    ran_then g.S.Store (put_registrations 1 c.args.radios.now) _ _ _ _ _ c.in_ok-put_registrations.ensures.ran c.cut_registrations.ensures.ran
+    ran_then g.S.Store (put_registrations 1 c.args.radios.now) _ _ _ _ _ c.in_ok-put_registrations.ensures.ran
+    c.cut_registrations.ensures.ran
 
 pub returns-in_err-put_registrations-clause-ran : goal.returns-in_err-put_registrations-clause-ran
 returns-in_err-put_registrations-clause-ran g c =

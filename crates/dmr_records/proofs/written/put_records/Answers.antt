@@ -10,4 +10,9 @@ returns-in_err-put_term-clause-ran g c =
 
 pub returns-clause-ran : goal.returns-clause-ran
 returns-clause-ran g c =
-    inr (c.put_term.new.tx.conn.now, one_ok g.S.Store (first_statement c.args.term.now) _ _ (rw c.ticks.ensures at c.in_ok-put_term.ensures.ran), rw (c.new-row.ensures, c.newest_row.ensures) at c.put_rest.ensures.ran)
+    inr (
+      c.put_term.new.tx.conn.now,
+      one_ok g.S.Store (first_statement c.args.term.now) _ _
+          (rw c.ticks.ensures at c.in_ok-put_term.ensures.ran),
+      rw (c.new-row.ensures, c.newest_row.ensures) at c.put_rest.ensures.ran,
+    )

@@ -30,7 +30,8 @@ returns-in_err-put_carriers-clause-ran g c =
     let changes = rw c.as_slice-2.ensures.value at c.in_ok-put_changes.ensures.ran in
     let notes = rw c.as_slice-3.ensures.value at c.in_ok-put_notes.ensures.ran in
     let carriers = rw c.as_slice-4.ensures.value at c.in_err-put_carriers.ensures.ran in
-    rw is (ran_then g.S.Store _ _ _ _ _ _ calls (ran_then g.S.Store _ _ _ _ _ _ changes (ran_then g.S.Store _ _ _ _ _ _ notes (ran_short g.S.Store _ _ _ _ _ carriers))))
+    rw is (ran_then g.S.Store _ _ _ _ _ _ calls
+    (ran_then g.S.Store _ _ _ _ _ _ changes (ran_then g.S.Store _ _ _ _ _ _ notes (ran_short g.S.Store _ _ _ _ _ carriers))))
 
 pub returns-in_err-put_radios-clause-ran : goal.returns-in_err-put_radios-clause-ran
 returns-in_err-put_radios-clause-ran g c =
@@ -40,7 +41,9 @@ returns-in_err-put_radios-clause-ran g c =
     let notes = rw c.as_slice-3.ensures.value at c.in_ok-put_notes.ensures.ran in
     let carriers = rw c.as_slice-4.ensures.value at c.in_ok-put_carriers.ensures.ran in
     let radios = rw c.registered.ensures at c.in_err-put_radios.ensures.ran in
-    rw is (ran_then g.S.Store _ _ _ _ _ _ calls (ran_then g.S.Store _ _ _ _ _ _ changes (ran_then g.S.Store _ _ _ _ _ _ notes (ran_then g.S.Store _ _ _ _ _ _ carriers (ran_short g.S.Store _ _ _ _ _ radios)))))
+    rw is (ran_then g.S.Store _ _ _ _ _ _ calls
+    (ran_then g.S.Store _ _ _ _ _ _ changes
+    (ran_then g.S.Store _ _ _ _ _ _ notes (ran_then g.S.Store _ _ _ _ _ _ carriers (ran_short g.S.Store _ _ _ _ _ radios)))))
 
 pub returns-clause-ran : goal.returns-clause-ran
 returns-clause-ran g c =
@@ -49,4 +52,7 @@ returns-clause-ran g c =
     let notes = rw c.as_slice-3.ensures.value at c.in_ok-put_notes.ensures.ran in
     let carriers = rw c.as_slice-4.ensures.value at c.in_ok-put_carriers.ensures.ran in
     let radios = rw c.registered.ensures at c.in_ok-put_radios.ensures.ran in
-    ran_then g.S.Store _ _ _ _ _ _ calls (ran_then g.S.Store _ _ _ _ _ _ changes (ran_then g.S.Store _ _ _ _ _ _ notes (ran_then g.S.Store _ _ _ _ _ _ carriers (ran_then g.S.Store _ _ _ _ _ _ radios c.prune_after.ensures.ran))))
+    ran_then g.S.Store _ _ _ _ _ _ calls
+    (ran_then g.S.Store _ _ _ _ _ _ changes
+    (ran_then g.S.Store _ _ _ _ _ _ notes
+    (ran_then g.S.Store _ _ _ _ _ _ carriers (ran_then g.S.Store _ _ _ _ _ _ radios c.prune_after.ensures.ran))))

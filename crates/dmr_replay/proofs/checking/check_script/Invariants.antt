@@ -5,4 +5,5 @@ use Rattle.dmr_replay.proofs.checking.check_script.Given as goal
 
 abbrev pub invariant-loop-index : goal.invariant-loop-index
 invariant-loop-index l =
-    answer (given_before (lines_of l.script) (length l.yielded)) (length l.yielded + 1) (drop (length l.yielded) (lines_of l.script)) ≡ script_of l.script
+    answer (given_before (lines_of l.script) (length l.yielded)) (length l.yielded + 1)
+    (drop (length l.yielded) (lines_of l.script)) ≡ script_of l.script

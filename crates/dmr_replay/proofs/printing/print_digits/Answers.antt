@@ -10,7 +10,9 @@ pub loop-at-preserved : goal.loop-at-preserved
 loop-at-preserved g c = record {
   within = omega arith;
   printed =
-      piece_printed (g.W.Write.contents c.args.out.now) (g.W.Write.contents c.loop-at.out) (g.W.Write.contents c.write_all.new.self) c.args.octets.now c.loop-at.at c.min-count.result
+      piece_printed (g.W.Write.contents c.args.out.now) (g.W.Write.contents c.loop-at.out)
+      (g.W.Write.contents c.write_all.new.self) c.args.octets.now c.loop-at.at c.min-count.result
       c.loop-at.invariant.printed
-      (subst (Appends (g.W.Write.contents c.loop-at.out) (g.W.Write.contents c.write_all.new.self)) c.fill_with_digits.ensures c.in_ok-write_all.ensures.bytes);
+      (subst (Appends (g.W.Write.contents c.loop-at.out) (g.W.Write.contents c.write_all.new.self)) c.fill_with_digits.ensures
+      c.in_ok-write_all.ensures.bytes);
 }

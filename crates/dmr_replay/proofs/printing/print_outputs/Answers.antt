@@ -18,7 +18,8 @@ loop-number-preserved g c =
       | then-is_some+in_ok-print_carrier w ↦
           let octets_are = w.carrier.ensures ∙ ap put_out c.new-carrier.ensures in
           let after = g.W.Write.contents w.print_carrier.new.out in
-          let printed = line_printed plan put_out number old before after c.loop-number.invariant (sym found ∙ w.if-is_some.true) (subst (λ (octets : List ℕ). Appends before after (carrier_line number octets)) octets_are w.in_ok-print_carrier.ensures) in
+          let printed = line_printed plan put_out number old before after c.loop-number.invariant (sym found ∙ w.if-is_some.true)
+          (subst (λ (octets : List ℕ). Appends before after (carrier_line number octets)) octets_are w.in_ok-print_carrier.ensures) in
           rw w.out-is printed
       | else-is_some w ↦
           rw w.out-is (passed_over plan put_out number old before c.loop-number.invariant (sym found ∙ w.if-is_some.false))
@@ -31,6 +32,8 @@ returns g c =
     let before = g.W.Write.contents c.loop-number.out in
     let after = g.W.Write.contents c.write_all.new.self in
     let all : c.loop-number.number ≡ 16 = omega arith in
-    let lines : Appends old before (lines_to c.args.plan.now put_out 16) = subst (λ (numbers : ℕ). Appends old before (lines_to c.args.plan.now put_out numbers)) all c.loop-number.invariant in
-    end_printed c.flush.result old before after (g.W.Write.contents c.flush.new.self) (lines_to c.args.plan.now put_out 16) c.args.outputs.now.console
+    let lines : Appends old before (lines_to c.args.plan.now put_out 16) =
+    subst (λ (numbers : ℕ). Appends old before (lines_to c.args.plan.now put_out numbers)) all c.loop-number.invariant in
+    end_printed c.flush.result old before after (g.W.Write.contents c.flush.new.self)
+    (lines_to c.args.plan.now put_out 16) c.args.outputs.now.console
     lines (subst (Appends before after) c.console.ensures c.in_ok-write_all.ensures.bytes) c.flush.ensures.bytes

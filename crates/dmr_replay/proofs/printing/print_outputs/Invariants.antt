@@ -5,4 +5,5 @@ use Rattle.dmr_replay.proofs.printing.print_outputs.Given as goal
 
 abbrev pub invariant-loop-number : goal.invariant-loop-number
 invariant-loop-number g l =
-    Appends (g.W.Write.contents l.initial.out) (g.W.Write.contents l.out) (lines_to l.plan (λ c. slice_index_or l.outputs.carriers c []) l.number)
+    Appends (g.W.Write.contents l.initial.out) (g.W.Write.contents l.out)
+    (lines_to l.plan (λ c. slice_index_or l.outputs.carriers c []) l.number)

@@ -6,7 +6,8 @@ use Rattle.dmr_replay.proofs.ScriptLemmas.{once_more}
 use Rattle.dmr_replay.proofs.running.run_input.Goals as goal
 
 pub loop-init : goal.loop-init
-loop-init c = λ s before writes. subst (λ (inputs : List Input). Writes s c.args.engine.now c.args.outputs.now inputs) (sym (append-nil before)) writes
+loop-init c = λ s before writes. subst (λ (inputs : List Input). Writes s c.args.engine.now c.args.outputs.now inputs)
+    (sym (append-nil before)) writes
 
 pub loop-preserved : goal.loop-preserved
 loop-preserved c =

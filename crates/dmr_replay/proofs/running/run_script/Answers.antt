@@ -14,7 +14,8 @@ pub loop-line-preserved : goal.loop-line-preserved
 loop-line-preserved c =
     let lines = lines_of c.args.script.now in
     let at = YieldsList-turn (YieldsList-at c.into_iter-line-iterator.ensures.into_iter_gives
-    (YieldsList-from_slice_split _ (λ o. eqb o 10) c.args.script.now c.split-line-items.ensures.rest c.split-line-items.ensures.done c.split-line-items.ensures.closure (λ x b q k. search (rules, tests))))
+    (YieldsList-from_slice_split _ (λ o. eqb o 10) c.args.script.now c.split-line-items.ensures.rest c.split-line-items.ensures.done
+    c.split-line-items.ensures.closure (λ x b q k. search (rules, tests))))
     c.loop-line.yielded _ c.loop-line.yielded_by _ _ c.in-Some.line c.in-Some.is c.next.ensures.steps in
     subst (λ (inputs : List Input). Writes c.args.engine.now c.run_line.new.engine c.run_line.new.outputs inputs)
     (sym (inputs_more (length c.loop-line.yielded) c.in-Some.line.now lines at _ (length_push c.loop-line.yielded c.in-Some.line)))
@@ -23,7 +24,8 @@ loop-line-preserved c =
 pub returns : goal.returns
 returns c =
     let end = YieldsList-end (YieldsList-at c.into_iter-line-iterator.ensures.into_iter_gives
-    (YieldsList-from_slice_split _ (λ o. eqb o 10) c.args.script.now c.split-line-items.ensures.rest c.split-line-items.ensures.done c.split-line-items.ensures.closure (λ x b q k. search (rules, tests))))
+    (YieldsList-from_slice_split _ (λ o. eqb o 10) c.args.script.now c.split-line-items.ensures.rest c.split-line-items.ensures.done
+    c.split-line-items.ensures.closure (λ x b q k. search (rules, tests))))
     c.loop-line.yielded _ c.loop-line.yielded_by _ _ c.in-None.is c.next.ensures.steps in
     let all : length (lines_of c.args.script.now) ≤ length c.loop-line.yielded = omega (arith, end.1) in
     subst (λ (given : List RepeatedInput). Writes c.args.engine.now c.loop-line.engine c.loop-line.outputs (inputs_of_script given))

@@ -15,17 +15,22 @@ loop-index-preserved-else-is_err c =
     (YieldsList-turn (YieldsList-at c.into_iter-index-iterator.ensures.into_iter_gives
     (YieldsList-from_enumerate
     (YieldsList-at c.enumerate-index-items.ensures.source
-    (YieldsList-from_slice_split _ (λ o. eqb o 10) c.args.script.now c.split.ensures.rest c.split.ensures.done c.split.ensures.closure (λ x b q k. search (rules, tests))))
+    (YieldsList-from_slice_split _ (λ o. eqb o 10) c.args.script.now c.split.ensures.rest c.split.ensures.done c.split.ensures.closure
+    (λ x b q k. search (rules, tests))))
     c.enumerate-index-items.ensures.count))
     c.loop-index.yielded _ c.loop-index.yielded_by _ _ (c.in-Some.index, c.in-Some.line) c.in-Some.is c.next.ensures.steps) in
     let given = map repeated_input c.loop-index.given.items in
     let input = repeated_input c.in-Ok-Some.input in
     let taken : is_ok c.push.result ≡ true = c.is_err.ensures.negation ∙ ap not c.if-is_err.false in
     let items = rw taken at c.push.ensures.items in
-    let more : map repeated_input c.push.new.self.items ≡ given ++ input ∷ [] = ap (map repeated_input) items ∙ map-append repeated_input c.loop-index.given.items _ in
-    let some : input_of_line c.in-Some.line.now ≡ Some input = sym c.in-Ok-Some.ensures ∙ ap (option_map repeated_input) c.in-Ok-Some.field-0-is in
-    gives (map repeated_input c.loop-index.given.items) (length c.loop-index.yielded) c.in-Some.line.now (lines_of c.args.script.now) at.1 (script_of c.args.script.now) c.loop-index.invariant
-    _ (length_push c.loop-index.yielded (c.in-Some.index, c.in-Some.line)) input _ more (sym c.is_skipped.ensures ∙ c.if-not-is_skipped.true) some
+    let more : map repeated_input c.push.new.self.items ≡ given ++ input ∷ [] =
+    ap (map repeated_input) items ∙ map-append repeated_input c.loop-index.given.items _ in
+    let some : input_of_line c.in-Some.line.now ≡ Some input =
+    sym c.in-Ok-Some.ensures ∙ ap (option_map repeated_input) c.in-Ok-Some.field-0-is in
+    gives (map repeated_input c.loop-index.given.items) (length c.loop-index.yielded) c.in-Some.line.now (lines_of c.args.script.now) at.1
+    (script_of c.args.script.now) c.loop-index.invariant
+    _ (length_push c.loop-index.yielded (c.in-Some.index, c.in-Some.line)) input _ more
+    (sym c.is_skipped.ensures ∙ c.if-not-is_skipped.true) some
 
 pub returns-in-Ok-None-clause-fault : goal.returns-in-Ok-None-clause-fault
 returns-in-Ok-None-clause-fault c =
@@ -33,11 +38,14 @@ returns-in-Ok-None-clause-fault c =
     (YieldsList-turn (YieldsList-at c.into_iter-index-iterator.ensures.into_iter_gives
     (YieldsList-from_enumerate
     (YieldsList-at c.enumerate-index-items.ensures.source
-    (YieldsList-from_slice_split _ (λ o. eqb o 10) c.args.script.now c.split.ensures.rest c.split.ensures.done c.split.ensures.closure (λ x b q k. search (rules, tests))))
+    (YieldsList-from_slice_split _ (λ o. eqb o 10) c.args.script.now c.split.ensures.rest c.split.ensures.done c.split.ensures.closure
+    (λ x b q k. search (rules, tests))))
     c.enumerate-index-items.ensures.count))
     c.loop-index.yielded _ c.loop-index.yielded_by _ _ (c.in-Some.index, c.in-Some.line) c.in-Some.is c.next.ensures.steps) in
-    let none : input_of_line c.in-Some.line.now ≡ None = sym c.in-Ok-None.ensures ∙ ap (option_map repeated_input) c.in-Ok-None.field-0-is in
-    let fault = faults (map repeated_input c.loop-index.given.items) (length c.loop-index.yielded) c.in-Some.line.now (lines_of c.args.script.now) at.1 (script_of c.args.script.now) c.loop-index.invariant
+    let none : input_of_line c.in-Some.line.now ≡ None =
+    sym c.in-Ok-None.ensures ∙ ap (option_map repeated_input) c.in-Ok-None.field-0-is in
+    let fault = faults (map repeated_input c.loop-index.given.items) (length c.loop-index.yielded) c.in-Some.line.now
+    (lines_of c.args.script.now) at.1 (script_of c.args.script.now) c.loop-index.invariant
     (sym c.is_skipped.ensures ∙ c.if-not-is_skipped.true) none in
     λ number same. cc (fault, at.0)
 
@@ -47,10 +55,12 @@ loop-index-preserved c =
     (YieldsList-turn (YieldsList-at c.into_iter-index-iterator.ensures.into_iter_gives
     (YieldsList-from_enumerate
     (YieldsList-at c.enumerate-index-items.ensures.source
-    (YieldsList-from_slice_split _ (λ o. eqb o 10) c.args.script.now c.split.ensures.rest c.split.ensures.done c.split.ensures.closure (λ x b q k. search (rules, tests))))
+    (YieldsList-from_slice_split _ (λ o. eqb o 10) c.args.script.now c.split.ensures.rest c.split.ensures.done c.split.ensures.closure
+    (λ x b q k. search (rules, tests))))
     c.enumerate-index-items.ensures.count))
     c.loop-index.yielded _ c.loop-index.yielded_by _ _ (c.in-Some.index, c.in-Some.line) c.in-Some.is c.next.ensures.steps) in
-    skips (map repeated_input c.loop-index.given.items) (length c.loop-index.yielded) c.in-Some.line.now (lines_of c.args.script.now) at.1 (script_of c.args.script.now) c.loop-index.invariant
+    skips (map repeated_input c.loop-index.given.items) (length c.loop-index.yielded) c.in-Some.line.now (lines_of c.args.script.now) at.1
+    (script_of c.args.script.now) c.loop-index.invariant
     _ (length_push c.loop-index.yielded (c.in-Some.index, c.in-Some.line)) (sym c.is_skipped.ensures ∙ c.if-not-is_skipped.false)
 
 pub returns-clause-lines : goal.returns-clause-lines
@@ -58,8 +68,10 @@ returns-clause-lines c =
     let end = YieldsList-end (YieldsList-at c.into_iter-index-iterator.ensures.into_iter_gives
     (YieldsList-from_enumerate
     (YieldsList-at c.enumerate-index-items.ensures.source
-    (YieldsList-from_slice_split _ (λ o. eqb o 10) c.args.script.now c.split.ensures.rest c.split.ensures.done c.split.ensures.closure (λ x b q k. search (rules, tests))))
+    (YieldsList-from_slice_split _ (λ o. eqb o 10) c.args.script.now c.split.ensures.rest c.split.ensures.done c.split.ensures.closure
+    (λ x b q k. search (rules, tests))))
     c.enumerate-index-items.ensures.count))
     c.loop-index.yielded _ c.loop-index.yielded_by _ _ c.in-None.is c.next.ensures.steps in
-    ends (map repeated_input c.loop-index.given.items) (length c.loop-index.yielded) (lines_of c.args.script.now) (script_of c.args.script.now)
+    ends (map repeated_input c.loop-index.given.items) (length c.loop-index.yielded) (lines_of c.args.script.now)
+    (script_of c.args.script.now)
     (omega (arith, end.1, length-enumerate_from 0 (lines_of c.args.script.now))) c.loop-index.invariant

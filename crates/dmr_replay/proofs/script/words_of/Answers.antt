@@ -7,4 +7,5 @@ use Rattle.dmr_replay.proofs.script.words_of.Goals as goal
 pub returns : goal.returns
 returns c =
     map_from_collect _ c.collect.ensures.ran
-    (YieldsList-from_slice_split _ (λ o. eqb o 32) c.args.line.now c.split.ensures.rest c.split.ensures.done c.split.ensures.closure (λ x b q k. search (rules, tests)))
+    (YieldsList-from_slice_split _ (λ o. eqb o 32) c.args.line.now c.split.ensures.rest c.split.ensures.done c.split.ensures.closure
+    (λ x b q k. search (rules, tests)))

@@ -8,4 +8,6 @@ pub returns : goal.returns
 returns c =
     let rank = rank_of c.args.place in
     let parted = IsPartitionedBy-ltb rank_of c.args.places.now rank (non_decreasing _ c.requires) in
-    gap_found _ _ _ c.partition_point.ensures.bound (IsPartitionPoint-from_clause (λ p. ltb (rank_of p) rank) _ _ c.partition_point.ensures.partitioned parted (λ a r q k. search rules))
+    gap_found _ _ _ c.partition_point.ensures.bound
+    (IsPartitionPoint-from_clause (λ p. ltb (rank_of p) rank) _ _ c.partition_point.ensures.partitioned parted
+    (λ a r q k. search rules))

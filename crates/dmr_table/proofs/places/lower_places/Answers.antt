@@ -10,4 +10,5 @@ loop-place-preserved c =
     let blank : Place = record { key = 0; index = 0 } in
     let read : Place = get_or c.loop-place.places c.loop-place.place-index blank in
     let same = get_or_default c.loop-place.places c.loop-place.place-index blank read (omega arith) in
-    rw c.after_removal.ensures (map_over_more (place_after_removal c.args.removed) c.args.places.now c.loop-place.places c.loop-place.place-index read (omega arith) c.loop-place.invariant same)
+    rw c.after_removal.ensures (map_over_more (place_after_removal c.args.removed) c.args.places.now c.loop-place.places
+    c.loop-place.place-index read (omega arith) c.loop-place.invariant same)

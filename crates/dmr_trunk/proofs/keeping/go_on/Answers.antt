@@ -12,16 +12,20 @@ returns-in-Ok-clause-goes_on g c =
     let back = c.in-Ok.keeping in
     let waits = c.args.waiting.now.outbox in
     let then = held c.start_writing.result in
-    let moved : c.move_to.new.outbox ≡ newest (back.outbox ++ waits) = c.move_to.ensures.moved ∙ ap (λ (terms : List TimedRecords). newest (back.outbox ++ terms)) c.note.ensures in
+    let moved : c.move_to.new.outbox ≡ newest (back.outbox ++ waits) =
+    c.move_to.ensures.moved ∙ ap (λ (terms : List TimedRecords). newest (back.outbox ++ terms)) c.note.ensures in
     goes_to_all (kept old.keeper) (kept then.keeper) (old.outbox ++ waits) then.outbox c.move_to.new.self.outbox c.move_to.ensures.none
-    (goes_on (kept old.keeper) (kept back.keeper) (kept then.keeper) (old.outbox ++ waits) (back.outbox ++ waits) then.outbox (goes_handed (kept old.keeper) (kept back.keeper) old.outbox back.outbox waits c.in-Ok.ensures.back)
-    (goes_on (kept back.keeper) (kept back.keeper) (kept then.keeper) (back.outbox ++ waits) c.move_to.new.outbox then.outbox (goes_moved (kept back.keeper) back.outbox waits c.move_to.new.outbox moved) c.start_writing.ensures.goes_on))
+    (goes_on (kept old.keeper) (kept back.keeper) (kept then.keeper) (old.outbox ++ waits) (back.outbox ++ waits) then.outbox
+    (goes_handed (kept old.keeper) (kept back.keeper) old.outbox back.outbox waits c.in-Ok.ensures.back)
+    (goes_on (kept back.keeper) (kept back.keeper) (kept then.keeper) (back.outbox ++ waits) c.move_to.new.outbox then.outbox
+    (goes_moved (kept back.keeper) back.outbox waits c.move_to.new.outbox moved) c.start_writing.ensures.goes_on))
 
 -- the thread still writes, so the writer is not idle
 pub returns-in-Err-clause-idle : goal.returns-in-Err-clause-idle
 returns-in-Err-clause-idle g c idle before all passed =
     let err : c.take_back.result ≡ Err c.in-Err.busy = search rules in
-    absurd (err_is_not_ok c.take_back.result c.in-Err.busy err (c.take_back.ensures.idle (subst (λ w. is_idle w ≡ true) c.in-Err.ensures.busy idle)))
+    absurd (err_is_not_ok c.take_back.result c.in-Err.busy err
+    (c.take_back.ensures.idle (subst (λ w. is_idle w ≡ true) c.in-Err.ensures.busy idle)))
 
 pub returns-in-Ok-clause-idle : goal.returns-in-Ok-clause-idle
 returns-in-Ok-clause-idle g c idle before all passed =
@@ -29,6 +33,9 @@ returns-in-Ok-clause-idle g c idle before all passed =
     let old = held c.args.writer in
     let back = c.in-Ok.keeping in
     let waits = c.args.waiting.now.outbox in
-    let moved : c.move_to.new.outbox ≡ newest (back.outbox ++ waits) = c.move_to.ensures.moved ∙ ap (λ (terms : List TimedRecords). newest (back.outbox ++ terms)) c.note.ensures in
+    let moved : c.move_to.new.outbox ≡ newest (back.outbox ++ waits) =
+    c.move_to.ensures.moved ∙ ap (λ (terms : List TimedRecords). newest (back.outbox ++ terms)) c.note.ensures in
     c.start_writing.ensures.idle idle before all
-    (goes_on (kept old.keeper) (kept back.keeper) (kept back.keeper) (old.outbox ++ waits) (back.outbox ++ waits) c.move_to.new.outbox (goes_handed (kept old.keeper) (kept back.keeper) old.outbox back.outbox waits c.in-Ok.ensures.back) (goes_moved (kept back.keeper) back.outbox waits c.move_to.new.outbox moved) before all passed)
+    (goes_on (kept old.keeper) (kept back.keeper) (kept back.keeper) (old.outbox ++ waits) (back.outbox ++ waits) c.move_to.new.outbox
+    (goes_handed (kept old.keeper) (kept back.keeper) old.outbox back.outbox waits c.in-Ok.ensures.back)
+    (goes_moved (kept back.keeper) back.outbox waits c.move_to.new.outbox moved) before all passed)

@@ -20,14 +20,18 @@ returns-clause-carriers g c = IfOk-weaker c.run_term.result _ _
 pub returns-clause-operators : goal.returns-clause-operators
 returns-clause-operators g c = IfOk-weaker c.run_term.result _ _
     (λ t term answers link reported told.
-    let P : ℕ → Type 0 = λ n. IsWholeSession (station_state t.console.link (reported_by t.console.port.recording) None) answers (view_of (n + 1) t.report.journal) in
+    let P : ℕ → Type 0 = λ n. IsWholeSession (station_state t.console.link (reported_by t.console.port.recording) None) answers
+    (view_of (n + 1) t.report.journal) in
     subst P (length-map c.args.stations.items _ ∙ sym c.args.stations.ok.0)
-    (c.one_session.ensures.operators _ _ answers term (record { link = link; reported = reported; passed = λ passages is. absurd (no_record passages is) }) told))
+    (c.one_session.ensures.operators _ _ answers term
+    (record { link = link; reported = reported; passed = λ passages is. absurd (no_record passages is) }) told))
     c.run_term.ensures.term
 
 pub returns-clause-ticks : goal.returns-clause-ticks
 returns-clause-ticks g c = IfOk-weaker c.run_term.result _ _
     (λ t term.
-    let P : ℕ → Type 0 = λ n. AreTicks (view_of n t.report.journal) × (t.pacer.given ≡ c.args.pacer.given + length (view_of n t.report.journal) ⊎ t.pacer.given ≡ c.args.pacer.given + (length (view_of n t.report.journal) + 1)) in
+    let P : ℕ → Type 0 = λ n. AreTicks (view_of n t.report.journal) ×
+    (t.pacer.given ≡ c.args.pacer.given + length (view_of n t.report.journal) ⊎ t.pacer.given ≡ c.args.pacer.given +
+    (length (view_of n t.report.journal) + 1)) in
     subst P (length-map c.args.stations.items _ ∙ sym c.args.stations.ok.0) (ticks_of _ _ _ _ term refl refl))
     c.run_term.ensures.term

@@ -20,5 +20,7 @@ returns-clause-operators c = λ start end answers term fresh told.
     let ended = run.ended.all_ended in
     let many = run.ended.actors in
     let ending = get_within end.ends (length start.stations + 1) (omega arith) in
-    let work = run.ended.console ending.0 (view_of (length start.stations + 1) end.journal) ending.1 (run.views (length start.stations + 1) (omega arith)) in
-    session c.one_record.ensures.whole c.one_meaning.ensures.works start.console end.console (view_of (length start.stations + 1) end.journal) answers work.0 work.1 fresh told
+    let work = run.ended.console ending.0 (view_of (length start.stations + 1) end.journal) ending.1
+    (run.views (length start.stations + 1) (omega arith)) in
+    session c.one_record.ensures.whole c.one_meaning.ensures.works start.console end.console
+    (view_of (length start.stations + 1) end.journal) answers work.0 work.1 fresh told

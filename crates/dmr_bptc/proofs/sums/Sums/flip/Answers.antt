@@ -12,6 +12,13 @@ returns c = λ word flipped is before.
     let rows : ℕ = c.args.self.now.rows in
     let high : ℕ = c.args.self.now.high in
     let low : ℕ = c.args.self.now.low in
-    subst (λ (number : ℕ → ℕ). AreSums flipped (record { columns = bit_xor columns (number 0); rows = bit_xor rows (number 1); high = bit_xor high (number 2); low = bit_xor low (number 3) }))
+    subst (λ (number : ℕ → ℕ). AreSums flipped
+    (record {
+      columns = bit_xor columns (number 0);
+      rows = bit_xor rows (number 1);
+      high = bit_xor high (number 2);
+      low = bit_xor low (number 3);
+    }))
     (λ i part. sum_number-entry part c.args.place i)
-    (are_sums-flipped word flipped c.args.place c.args.self.now.columns c.args.self.now.rows c.args.self.now.high c.args.self.now.low c.requires is before)
+    (are_sums-flipped word flipped c.args.place c.args.self.now.columns c.args.self.now.rows c.args.self.now.high c.args.self.now.low
+    c.requires is before)

@@ -35,11 +35,14 @@ loop-octet-preserved c =
     let i = c.loop-octet.octet-index in
     let x = get_or octets i 0 in
     let more : take (i + 1) octets ≡ take i octets ++ x ∷ [] = take_more octets i 0 c.loop-octet-test.true in
-    let step : step_from (rest_after_octets c.args.self.now (take i octets)) x ≡ Need = ap (λ (r : Rest). step_from r x) (sym c.loop-octet.invariant.rest) ∙ sym c.take_octet.ensures.step ∙ c.in-Need.is in
+    let step : step_from (rest_after_octets c.args.self.now (take i octets)) x ≡ Need =
+    ap (λ (r : Rest). step_from r x) (sym c.loop-octet.invariant.rest) ∙ sym c.take_octet.ensures.step ∙ c.in-Need.is in
     let P : List ℕ → Type 0 = λ xs. AreNeeds c.args.self.now xs in
     record {
       counted = ap (λ (n : ℕ). n + 1) c.loop-octet.invariant.counted;
-      rest = c.take_octet.ensures.rest ∙ ap (λ (r : Rest). rest_after_octet r x) c.loop-octet.invariant.rest ∙ sym (fold_push rest_after_octet c.args.self.now (take i octets) x) ∙ ap (λ (xs : List ℕ). rest_after_octets c.args.self.now xs) (sym more);
+      rest = c.take_octet.ensures.rest ∙ ap (λ (r : Rest). rest_after_octet r x) c.loop-octet.invariant.rest
+          ∙ sym (fold_push rest_after_octet c.args.self.now (take i octets) x)
+          ∙ ap (λ (xs : List ℕ). rest_after_octets c.args.self.now xs) (sym more);
       needs = subst P (sym more) (needs-more c.args.self.now (take i octets) x c.loop-octet.invariant.needs step);
     }
 

@@ -15,7 +15,8 @@ invariant_of-self c =
     let n = c.self.inside.count in
     let v : Version = version_of c.self.inside.table in
     let q : List ℕ = take n octets in
-    let need : Need ≡ step_at v q c.args.octet = sym c.in-Need.is ∙ c.read_octet.ensures ∙ ap (λ (w : Version). step_at w q c.args.octet) c.version.ensures in
+    let need : Need ≡ step_at v q c.args.octet =
+    sym c.in-Need.is ∙ c.read_octet.ensures ∙ ap (λ (w : Version). step_at w q c.args.octet) c.version.ensures in
     let shape : IsShape v (q ++ c.args.octet ∷ []) = need_shape v q c.args.octet c.self.invariant.1 (omega arith) need in
     let same : take (n + 1) (set octets n c.args.octet) ≡ q ++ c.args.octet ∷ [] = take_more_set octets n c.args.octet (omega arith) in
     let len : length q ≡ n = length-take-le n octets (omega arith) in

@@ -15,7 +15,8 @@ returns-clause-added c =
       | then-len-eq-MOST_WAITING w ↦
           let full : length old ≡ 1000 = omega (arith, long, w.if-len-eq-MOST_WAITING.true) in
           let full2 : length c.self.inside.terms.items ≡ 1000 = ap length (sym view) ∙ full in
-          added_instead _ _ _ _ _ (view ∙ oldest_of _ _ _ (omega (arith, full2)) w.remove.ensures.value w.remove.ensures.items) full (search rules)
+          added_instead _ _ _ _ _ (view ∙ oldest_of _ _ _ (omega (arith, full2)) w.remove.ensures.value w.remove.ensures.items) full
+          (search rules)
       | else-len-eq-MOST_WAITING w ↦
           let few : length old < 1000 = omega (arith, long, within, w.if-len-eq-MOST_WAITING.false) in
           added_within _ _ _ few (search rules)

@@ -44,4 +44,5 @@ pub returns-clause-no_cause : goal.returns-clause-no_cause
 returns-clause-no_cause g c = λ cause e.
     let serves = inside_serves g c in
     let ends = bad_ends c.serve_connection.new.self c.serve_connection.result cause _ e serves.ends in
-    no_cause c.serve_connection.new.self _ cause (serves.same ∙ c.self.invariant.0) (serves.stands c.self.invariant.1.0 c.self.invariant.1.1) ends.0 ends.1
+    no_cause c.serve_connection.new.self _ cause (serves.same ∙ c.self.invariant.0)
+    (serves.stands c.self.invariant.1.0 c.self.invariant.1.1) ends.0 ends.1

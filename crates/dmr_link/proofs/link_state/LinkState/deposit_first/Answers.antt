@@ -28,11 +28,16 @@ returns-in-Err-clause-step g c = record {
 
 handed_in : (g : Over) (c : goal.After-leave-in-Ok g) → Moves
     (moment_of g.W.Wire g.D.Desk g.G.Gate c.args.self.now c.args.port.now c.args.desk.now c.args.gate.now 0 Outside)
-    (moment_of g.W.Wire g.D.Desk g.G.Gate c.answer_peer.new.self c.answer_peer.new.port c.hand_in.new.desk c.leave-in-Ok.new.self 0 Outside) 0
+    (moment_of g.W.Wire g.D.Desk g.G.Gate c.answer_peer.new.self c.answer_peer.new.port c.hand_in.new.desk c.leave-in-Ok.new.self 0 Outside)
+    0
 handed_in g c =
     let reported = g.W.Wire.reported c.args.port.now in
     let calls = g.D.Desk.calls c.args.desk.now in
-    let P : Pending → Type 0 = λ p. Replies c.args.self.now.is_cut (with_pending c.args.self.now p) reported (answer_text (numbering_of c.args.self.now.connection) c.args.notice.now c.hand_in.new.acts) (with_next (with_pending c.args.self.now p) (next_after_answer (numbering_of c.args.self.now.connection) c.args.notice.now c.hand_in.new.acts)) c.answer_peer.new.self (g.W.Wire.reported c.answer_peer.new.port) in
+    let P : Pending → Type 0 = λ p. Replies c.args.self.now.is_cut (with_pending c.args.self.now p) reported
+    (answer_text (numbering_of c.args.self.now.connection) c.args.notice.now c.hand_in.new.acts)
+    (with_next (with_pending c.args.self.now p)
+    (next_after_answer (numbering_of c.args.self.now.connection) c.args.notice.now c.hand_in.new.acts)) c.answer_peer.new.self
+    (g.W.Wire.reported c.answer_peer.new.port) in
     moves_on _ _ _ _
     (moves_passed c.args.self.now reported calls _ _ Entered Outside Within c.if-not-enter.ensures.passed refl)
     (moves_on _ _ _ _
@@ -50,5 +55,10 @@ returns-in-Ok-clause-step g c = record {
 pub returns-in-Ok-clause-stops : goal.returns-in-Ok-clause-stops
 returns-in-Ok-clause-stops g c =
     let reported = g.W.Wire.reported c.args.port.now in
-    let P : Pending → Type 0 = λ p. Replies c.args.self.now.is_cut (with_pending c.args.self.now p) reported (answer_text (numbering_of c.args.self.now.connection) c.args.notice.now c.hand_in.new.acts) (with_next (with_pending c.args.self.now p) (next_after_answer (numbering_of c.args.self.now.connection) c.args.notice.now c.hand_in.new.acts)) c.answer_peer.new.self (g.W.Wire.reported c.answer_peer.new.port) in
-    fewer_by c.args.self.now c.args.notice.now c.hand_in.new.acts reported _ c.args.self.now.is_cut _ c.requires (subst P c.remove_first.ensures c.answer_peer.ensures)
+    let P : Pending → Type 0 = λ p. Replies c.args.self.now.is_cut (with_pending c.args.self.now p) reported
+    (answer_text (numbering_of c.args.self.now.connection) c.args.notice.now c.hand_in.new.acts)
+    (with_next (with_pending c.args.self.now p)
+    (next_after_answer (numbering_of c.args.self.now.connection) c.args.notice.now c.hand_in.new.acts)) c.answer_peer.new.self
+    (g.W.Wire.reported c.answer_peer.new.port) in
+    fewer_by c.args.self.now c.args.notice.now c.hand_in.new.acts reported _ c.args.self.now.is_cut _ c.requires
+    (subst P c.remove_first.ensures c.answer_peer.ensures)

@@ -22,10 +22,12 @@ pub loop-notice-preserved : goal.loop-notice-preserved
 loop-notice-preserved g c = record {
   moves = λ reported passed.
       let calls = g.D.Desk.calls c.loop-notice.desk in
-      let P : Pending → Type 0 = λ p. Moves (moment c.loop-notice.self (sides reported calls passed) 0 Disordered) (moment (with_pending c.loop-notice.self p) (sides reported (g.D.Desk.calls c.hand_in.new.desk) passed) 0 Disordered) 0 in
+      let P : Pending → Type 0 = λ p. Moves (moment c.loop-notice.self (sides reported calls passed) 0 Disordered)
+      (moment (with_pending c.loop-notice.self p) (sides reported (g.D.Desk.calls c.hand_in.new.desk) passed) 0 Disordered) 0 in
       moves_on _ _ _ _ (c.loop-notice.invariant.moves reported passed)
       (subst P (sym c.remove_first.ensures)
-      (flushes c.loop-notice.self c.in-Some.notice c.hand_in.new.acts reported calls _ passed c.loop-notice.invariant.cut (sym c.first.ensures ∙ c.in-Some.is)
+      (flushes c.loop-notice.self c.in-Some.notice c.hand_in.new.acts reported calls _ passed c.loop-notice.invariant.cut
+      (sym c.first.ensures ∙ c.in-Some.is)
       c.in_ok-hand_in.ensures.ok));
   cut = c.loop-notice.invariant.cut;
   connection = c.loop-notice.invariant.connection;
@@ -39,4 +41,5 @@ returns-in_err-hand_in-clause-keeps g c =
 
 pub returns-in_err-hand_in-clause-moves : goal.returns-in_err-hand_in-clause-moves
 returns-in_err-hand_in-clause-moves g c = λ reported passed.
-    moves_on _ _ _ _ (c.loop-notice.invariant.moves reported passed) (moves_untaken _ reported _ _ passed Disordered c.in_err-hand_in.ensures.err.0)
+    moves_on _ _ _ _ (c.loop-notice.invariant.moves reported passed)
+    (moves_untaken _ reported _ _ passed Disordered c.in_err-hand_in.ensures.err.0)

@@ -21,7 +21,8 @@ read_first g c =
 
 pub returns-in_err-process_unread-clause-moves : goal.returns-in_err-process_unread-clause-moves
 returns-in_err-process_unread-clause-moves g c =
-    turn_passed_on _ _ _ _ _ _ c.from_residual.ensures (moves_then _ _ _ _ (read_first g c.before.before) c.in_err-process_unread.ensures.step.moves)
+    turn_passed_on _ _ _ _ _ _ c.from_residual.ensures
+    (moves_then _ _ _ _ (read_first g c.before.before) c.in_err-process_unread.ensures.step.moves)
 
 pub returns-clause-moves : goal.returns-clause-moves
 returns-clause-moves g c = moves_then _ _ _ _ (read_first g c.before) c.in_ok-process_unread.ensures.step.moves

@@ -12,9 +12,12 @@ returns c =
     let l = c.args.self.now in
     let n = c.receive-count.result.0 in
     let outcome = c.receive-count.result.1 in
-    let brings : all_produce l.connection (take n l.unread) ≡ list_of_notice (option_map notice_meant outcome.notice) = ap (λ (xs : List ℕ). all_produce l.connection (take n xs)) (sym c.as_slice.ensures) ∙ c.receive-count.ensures.notice in
-    let left : c.receive-count.new.self ≡ left_after l.connection (take n l.unread) = c.receive-count.ensures.stream ∙ ap (λ (xs : List ℕ). left_after l.connection (take n xs)) c.as_slice.ensures in
-    let closes : outcome.closing ≡ closes_by l.connection (take n l.unread) = c.receive-count.ensures.closing ∙ ap (λ (xs : List ℕ). closes_by l.connection (take n xs)) c.as_slice.ensures in
+    let brings : all_produce l.connection (take n l.unread) ≡ list_of_notice (option_map notice_meant outcome.notice) =
+    ap (λ (xs : List ℕ). all_produce l.connection (take n xs)) (sym c.as_slice.ensures) ∙ c.receive-count.ensures.notice in
+    let left : c.receive-count.new.self ≡ left_after l.connection (take n l.unread) =
+    c.receive-count.ensures.stream ∙ ap (λ (xs : List ℕ). left_after l.connection (take n xs)) c.as_slice.ensures in
+    let closes : outcome.closing ≡ closes_by l.connection (take n l.unread) =
+    c.receive-count.ensures.closing ∙ ap (λ (xs : List ℕ). closes_by l.connection (take n xs)) c.as_slice.ensures in
     record {
       octets = take n l.unread;
       rest = drop n l.unread;

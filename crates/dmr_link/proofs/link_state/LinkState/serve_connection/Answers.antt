@@ -17,7 +17,8 @@ pub returns-in-Err-read_and_process-clause-works : goal.returns-in-Err-read_and_
 returns-in-Err-read_and_process-clause-works g c = record {
   row = 0;
   reads = c.loop.counter + 1;
-  moves = moves_on _ _ _ _ c.in_default.ensures.step.moves (moves_more _ _ _ _ _ c.loop.invariant.moves c.in-Err-read_and_process.ensures.moves);
+  moves = moves_on _ _ _ _ c.in_default.ensures.step.moves
+      (moves_more _ _ _ _ _ c.loop.invariant.moves c.in-Err-read_and_process.ensures.moves);
   few = omega arith;
   ends = ends_by c.in-Err-read_and_process.stop _ _ c.in-Err-read_and_process.ensures.stops;
 }

@@ -7,5 +7,6 @@ pub returns : goal.returns
 returns c =
     let none : List ℕ = [] in
     let count : length c.self-inside.inside.0.0 ≡ carriers_of_site = search rules in
-    let texts : c.clear_texts.new.texts ≡ replicate carriers_of_site none = c.clear_texts.ensures ∙ map_to_one none _ ∙ ap (λ (n : ℕ). replicate n none) count in
+    let texts : c.clear_texts.new.texts ≡ replicate carriers_of_site none =
+    c.clear_texts.ensures ∙ map_to_one none _ ∙ ap (λ (n : ℕ). replicate n none) count in
     rw (texts, c.clear.ensures.items) refl

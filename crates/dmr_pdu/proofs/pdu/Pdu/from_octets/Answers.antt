@@ -14,7 +14,8 @@ pub returns-in-None-clause-agrees : goal.returns-in-None-clause-agrees
 returns-in-None-clause-agrees c = agrees-other c.args.octets.now (λ pdu is. cc (c.read_pdu.ensures.only pdu is, c.in-None.is))
 
 pub returns-in-None-clause-only : goal.returns-in-None-clause-only
-returns-in-None-clause-only c = λ pdu is. agrees-other_same pdu c.args.octets.now (λ p p_is. cc (c.read_pdu.ensures.only p p_is, c.in-None.is)) is
+returns-in-None-clause-only c = λ pdu is. agrees-other_same pdu c.args.octets.now
+    (λ p p_is. cc (c.read_pdu.ensures.only p p_is, c.in-None.is)) is
 
 pub returns-in-Some-clause-pdu : goal.returns-in-Some-clause-pdu
 returns-in-Some-clause-pdu c = sym (pdu_of-only c.in-Some.pdu c.args.octets.now (returns-in-Some-clause-agrees c))

@@ -12,7 +12,8 @@ count_grant-requires c k below =
 pub invariant_of-self : goal.invariant_of-self
 invariant_of-self c =
     let inside = c.self.inside in
-    let granted = c.slot_counted-granted.ensures ∙ sym (ap (λ (w : WaitingPdus). slot_counted w.lists c.args.slot.now c.args.pdu.now) c.self.view_is) in (
+    let granted = c.slot_counted-granted.ensures ∙ sym
+    (ap (λ (w : WaitingPdus). slot_counted w.lists c.args.slot.now c.args.pdu.now) c.self.view_is) in (
       pushed_kept inside.lists inside.outboxes.items inside.grants c.args.slot.now c.args.pdu.now c.index.result c.index_mut.result.now
           c.self.invariant.2 c.index.ensures.numbers c.index.ensures.value c.index_mut.ensures.value c.self.invariant.0 c.self.invariant.1
           c.push.new.self c.push.ensures

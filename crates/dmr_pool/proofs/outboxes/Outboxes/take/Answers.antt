@@ -8,7 +8,8 @@ use Rattle.dmr_pool.proofs.outboxes.Outboxes.take.Goals as goal
 pub uncount_grant-requires : goal.uncount_grant-requires
 uncount_grant-requires c k below this =
     let inside = c.self.inside in
-    let granted = c.slot_counted-granted.ensures ∙ sym (ap (λ (w : WaitingPdus). slot_counted w.lists c.args.slot.now c.args.pdu.now) c.self.view_is) in
+    let granted = c.slot_counted-granted.ensures ∙ sym
+    (ap (λ (w : WaitingPdus). slot_counted w.lists c.args.slot.now c.args.pdu.now) c.self.view_is) in
     taken_some inside.lists inside.outboxes.items inside.grants c.args.slot.now c.args.pdu.now c.index.result c.index_mut.result.now
     c.self.invariant.2 c.index.ensures.numbers c.index.ensures.value c.index_mut.ensures.value c.self.invariant.0 c.self.invariant.1
     (ap (λ (w : WaitingPdus). slice_get (box w.outboxes c.args.slot.now) 0) c.self.view_is ∙ c.requires)
@@ -17,7 +18,8 @@ uncount_grant-requires c k below this =
 pub invariant_of-self : goal.invariant_of-self
 invariant_of-self c =
     let inside = c.self.inside in
-    let granted = c.slot_counted-granted.ensures ∙ sym (ap (λ (w : WaitingPdus). slot_counted w.lists c.args.slot.now c.args.pdu.now) c.self.view_is) in (
+    let granted = c.slot_counted-granted.ensures ∙ sym
+    (ap (λ (w : WaitingPdus). slot_counted w.lists c.args.slot.now c.args.pdu.now) c.self.view_is) in (
       taken_kept inside.lists inside.outboxes.items inside.grants c.args.slot.now c.args.pdu.now c.index.result c.index_mut.result.now
           c.self.invariant.2 c.index.ensures.numbers c.index.ensures.value c.index_mut.ensures.value c.self.invariant.0 c.self.invariant.1
           c.take.new.self c.take.ensures.rest,

@@ -12,6 +12,7 @@ returns c =
     let short : length items ≤ 8 = omega (arith, c.remaining_capacity.ensures) in
     let left : room ≡ 8 - length items = omega (arith, c.remaining_capacity.ensures) in
     let fits : length (take count octets) ≤ room = omega (arith, length-take count octets, c.min-count.ensures) in
-    at_ok c.try_extend_from_slice.result (c.try_extend_from_slice.ensures.variant.1 (omega (arith, c.remaining_capacity.ensures, fits))) c.try_extend_from_slice.ensures.ok
+    at_ok c.try_extend_from_slice.result (c.try_extend_from_slice.ensures.variant.1 (omega (arith, c.remaining_capacity.ensures, fits)))
+    c.try_extend_from_slice.ensures.ok
     ∙ ap (λ n. items ++ take n octets) c.min-count.ensures
     ∙ take_added 8 room items octets left short

@@ -15,6 +15,7 @@ invariant_of-self g c =
       i.2,
       i.3,
       i.4,
-      agrees_quiet (is_carrier p.settings.whose) (first_if_served (option_map connection_of p.served)) p.unsent (g.S.Sockets.state p.sockets).log
+      agrees_quiet (is_carrier p.settings.whose) (first_if_served (option_map connection_of p.served)) p.unsent
+          (g.S.Sockets.state p.sockets).log
           (g.W.Witness.reported p.witness) (g.W.Witness.reported c.see.new.self) NotYet (λ traffic. refl) c.see.ensures i.5,
     )

@@ -17,6 +17,7 @@ invariant_of-self-2 g c =
       i.2,
       λ none. c.clear.ensures,
       i.4,
-      agrees_let_go (is_carrier p.settings.whose) p.served c.take.new.self c.in-Some.served p.unsent c.send_all.new.self c.clear.new.self (state p.sockets).log (state c.send_all.new.sockets).log (state c.close.new.self).log (g.W.Witness.reported p.witness)
+      agrees_let_go (is_carrier p.settings.whose) p.served c.take.new.self c.in-Some.served p.unsent c.send_all.new.self c.clear.new.self
+          (state p.sockets).log (state c.send_all.new.sockets).log (state c.close.new.self).log (g.W.Witness.reported p.witness)
           served c.take.ensures.after c.clear.ensures c.close.ensures.log c.send_all.ensures.passes i.5,
     )

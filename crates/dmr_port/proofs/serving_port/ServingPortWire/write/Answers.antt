@@ -21,7 +21,8 @@ invariant_of-self g c =
       i.2,
       i.3,
       i.4,
-      agrees_quiet (is_carrier p.settings.whose) (first_if_served (option_map connection_of p.served)) p.unsent (g.S.Sockets.state p.sockets).log
+      agrees_quiet (is_carrier p.settings.whose) (first_if_served (option_map connection_of p.served)) p.unsent
+          (g.S.Sockets.state p.sockets).log
           (g.W.Witness.reported p.witness) (g.W.Witness.reported c.see.new.self) WriteFailed (λ traffic. refl) c.see.ensures i.5,
     )
 
@@ -50,6 +51,8 @@ invariant_of-self-2 g c =
       λ off. absurd (false≢true (sym off)),
       i.4,
       subst Q (sym first)
-          (agrees_written carrier s.first.octets.items p.unsent w.new.self (state p.sockets).log (state w.new.sockets).log (told p.witness) (told c.see-2.new.self) a.result octets
-          (subst P taken w.ensures.passes) c.see-2.ensures (agrees_served carrier p.served s p.unsent (state p.sockets).log (told p.witness) c.in-Some.is i.5)),
+          (agrees_written carrier s.first.octets.items p.unsent w.new.self (state p.sockets).log (state w.new.sockets).log (told p.witness)
+          (told c.see-2.new.self) a.result octets
+          (subst P taken w.ensures.passes) c.see-2.ensures
+          (agrees_served carrier p.served s p.unsent (state p.sockets).log (told p.witness) c.in-Some.is i.5)),
     )

@@ -14,7 +14,8 @@ loop-next-init c = record {
 
 pub returns-in_default-clause-gives : goal.returns-in_default-clause-gives
 returns-in_default-clause-gives c =
-    none_next c.args.self.now c.loop-next.listed.items c.loop-next.next (16 - length c.loop-next.listed.items) (sym c.in_default.is ∙ least_found (held_from c.args.self.now c.loop-next.next) c.lowest_from.result c.lowest_from.ensures)
+    none_next c.args.self.now c.loop-next.listed.items c.loop-next.next (16 - length c.loop-next.listed.items)
+    (sym c.in_default.is ∙ least_found (held_from c.args.self.now c.loop-next.next) c.lowest_from.result c.lowest_from.ensures)
     ∙ c.loop-next.invariant.whole
 
 pub returns-in_default-clause-least : goal.returns-in_default-clause-least
@@ -22,12 +23,14 @@ returns-in_default-clause-least c = none_left _ _ _ _ c.loop-next.invariant.foun
 
 pub loop-next-preserved : goal.loop-next-preserved
 loop-next-preserved c =
-    let not_full : length c.loop-next.listed.items ≢ 16 = λ full. let wrong = eq-eqb (length c.loop-next.listed.items) 16 full in cc c.loop-next-test.ensures.value in
+    let not_full : length c.loop-next.listed.items ≢ 16 = λ full. let wrong =
+    eq-eqb (length c.loop-next.listed.items) 16 full in cc c.loop-next-test.ensures.value in
     let found = one_more_found _ _ _ _ _ c.loop-next.invariant.found c.in-Some.ensures.0 c.in-Some.ensures.1 in
     let listed = c.loop-next.listed.items ++ c.in-Some.radio ∷ [] in
     let long = length_push c.loop-next.listed.items c.in-Some.radio in
     let whole : listed ++ next_from (16 - length listed) c.args.self.now (c.in-Some.radio + 1) ≡ least_from c.args.self.now c.args.from =
-    next_one c.args.self.now c.loop-next.listed.items c.loop-next.next c.in-Some.radio (16 - length c.loop-next.listed.items) (16 - length listed) (omega (arith, long, not_full, c.loop-next.invariant.few))
+    next_one c.args.self.now c.loop-next.listed.items c.loop-next.next c.in-Some.radio (16 - length c.loop-next.listed.items)
+    (16 - length listed) (omega (arith, long, not_full, c.loop-next.invariant.few))
     (sym c.in-Some.is ∙ least_found (held_from c.args.self.now c.loop-next.next) c.lowest_from.result c.lowest_from.ensures)
     ∙ c.loop-next.invariant.whole in record {
       few = rw (c.push.ensures.items, length_push) (omega arith);
@@ -38,7 +41,9 @@ loop-next-preserved c =
 pub returns-clause-gives : goal.returns-clause-gives
 returns-clause-gives c =
     let full = eqb-true (length c.loop-next.listed.items) 16 (sym c.loop-next-test.ensures.value) in
-    enough c.args.self.now c.loop-next.listed.items c.loop-next.next (16 - length c.loop-next.listed.items) (omega (arith, full)) ∙ c.loop-next.invariant.whole
+    enough c.args.self.now c.loop-next.listed.items c.loop-next.next (16 - length c.loop-next.listed.items) (omega (arith, full))
+    ∙ c.loop-next.invariant.whole
 
 pub returns-clause-least : goal.returns-clause-least
-returns-clause-least c = enough_found _ _ _ _ c.loop-next.invariant.found (eqb-true (length c.loop-next.listed.items) 16 (sym c.loop-next-test.ensures.value))
+returns-clause-least c =
+    enough_found _ _ _ _ c.loop-next.invariant.found (eqb-true (length c.loop-next.listed.items) 16 (sym c.loop-next-test.ensures.value))

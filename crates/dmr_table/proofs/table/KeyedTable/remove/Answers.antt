@@ -5,7 +5,9 @@ use Rattle.dmr_table.proofs.table.KeyedTable.remove.Goals as goal
 
 pub loop-smaller : goal.loop-smaller
 loop-smaller g c =
-    rw c.remove_first.ensures.others (one_fewer (λ v. g.V.Keyed.key_of v == c.args.key) c.loop.self (ap is_some (sym c.remove_first.ensures.first) ∙ sym c.is_some.ensures ∙ c.loop-test.true))
+    rw c.remove_first.ensures.others
+    (one_fewer (λ v. g.V.Keyed.key_of v == c.args.key) c.loop.self
+    (ap is_some (sym c.remove_first.ensures.first) ∙ sym c.is_some.ensures ∙ c.loop-test.true))
 
 pub loop-preserved : goal.loop-preserved
 loop-preserved g c = rw c.remove_first.ensures.others (others_same (λ v. g.V.Keyed.key_of v == c.args.key) _ ∙ c.loop.invariant)
@@ -13,5 +15,6 @@ loop-preserved g c = rw c.remove_first.ensures.others (others_same (λ v. g.V.Ke
 pub returns : goal.returns
 returns g c =
     c.remove_first.ensures.others
-    ∙ none_left (λ v. g.V.Keyed.key_of v == c.args.key) c.loop.self (ap is_some (sym c.remove_first.ensures.first) ∙ sym c.is_some.ensures ∙ c.loop-test.false)
+    ∙ none_left (λ v. g.V.Keyed.key_of v == c.args.key) c.loop.self
+    (ap is_some (sym c.remove_first.ensures.first) ∙ sym c.is_some.ensures ∙ c.loop-test.false)
     ∙ c.loop.invariant

@@ -22,14 +22,16 @@ pub returns-then-place-key-clause-first : goal.returns-then-place-key-clause-fir
 returns-then-place-key-clause-first g c =
     let few : length c.self.inside.entries.items ≤ 65536 = omega (arith, c.self.invariant.few, c.self.invariant.small) in
     let first : HasFirst c.self.inside.places.items c.args.key c.in_ok-first.first = rw c.deref.ensures.value at c.in_ok-first.ensures in
-    let none = other_key g.V.Keyed.key_of _ _ c.args.key c.self.invariant.places _ c.index-place.result.now first c.index-place.ensures c.if-place-key.true few in
+    let none = other_key g.V.Keyed.key_of _ _ c.args.key c.self.invariant.places _ c.index-place.result.now first c.index-place.ensures
+    c.if-place-key.true few in
     rw (← c.self.view_is) (sym none.found)
 
 pub returns-then-place-key-clause-others : goal.returns-then-place-key-clause-others
 returns-then-place-key-clause-others g c =
     let few : length c.self.inside.entries.items ≤ 65536 = omega (arith, c.self.invariant.few, c.self.invariant.small) in
     let first : HasFirst c.self.inside.places.items c.args.key c.in_ok-first.first = rw c.deref.ensures.value at c.in_ok-first.ensures in
-    let none = other_key g.V.Keyed.key_of _ _ c.args.key c.self.invariant.places _ c.index-place.result.now first c.index-place.ensures c.if-place-key.true few in
+    let none = other_key g.V.Keyed.key_of _ _ c.args.key c.self.invariant.places _ c.index-place.result.now first c.index-place.ensures
+    c.if-place-key.true few in
     rw (← c.self.view_is) (sym none.left)
 
 pub invariant_of-self : goal.invariant_of-self
@@ -37,9 +39,14 @@ invariant_of-self g c =
     let few : length c.self.inside.entries.items ≤ 65536 = omega (arith, c.self.invariant.few, c.self.invariant.small) in
     let first : HasFirst c.self.inside.places.items c.args.key c.in_ok-first.first = rw c.deref.ensures.value at c.in_ok-first.ensures in
     let n = c.index-place.result.now.index in
-    let left : ArePlaces g.V.Keyed.key_of (remove c.self.inside.entries.items n) (map (place_after_removal n) (remove c.self.inside.places.items c.in_ok-first.first)) = places_left g.V.Keyed.key_of _ _ few c.self.invariant.places _ first.within c.index-place.result.now c.index-place.ensures c.remove-2.result in
-    let lower : c.lower_places.new.places ≡ map (place_after_removal n) (remove c.self.inside.places.items c.in_ok-first.first) = rw (c.deref_mut.ensures.value, c.remove.ensures.items) at c.lower_places.ensures in
-    let written : take c.remove.new.self.len (c.lower_places.new.places ++ drop (length c.lower_places.new.places) c.remove.new.self.items) ≡ map (place_after_removal n) (remove c.self.inside.places.items c.in_ok-first.first) = grind (arith, common_steps, lower) in
+    let left : ArePlaces g.V.Keyed.key_of (remove c.self.inside.entries.items n)
+    (map (place_after_removal n) (remove c.self.inside.places.items c.in_ok-first.first)) =
+    places_left g.V.Keyed.key_of _ _ few c.self.invariant.places _ first.within c.index-place.result.now c.index-place.ensures
+    c.remove-2.result in
+    let lower : c.lower_places.new.places ≡ map (place_after_removal n) (remove c.self.inside.places.items c.in_ok-first.first) =
+    rw (c.deref_mut.ensures.value, c.remove.ensures.items) at c.lower_places.ensures in
+    let written : take c.remove.new.self.len (c.lower_places.new.places ++ drop (length c.lower_places.new.places) c.remove.new.self.items)
+    ≡ map (place_after_removal n) (remove c.self.inside.places.items c.in_ok-first.first) = grind (arith, common_steps, lower) in
     let items : c.remove-2.new.self.items ≡ remove c.self.inside.entries.items n = rw c.from.ensures at c.remove-2.ensures.items in
     record {
       small = c.self.invariant.small;
@@ -54,12 +61,14 @@ pub returns-clause-first : goal.returns-clause-first
 returns-clause-first g c =
     let few : length c.self.inside.entries.items ≤ 65536 = omega (arith, c.self.invariant.few, c.self.invariant.small) in
     let first : HasFirst c.self.inside.places.items c.args.key c.in_ok-first.first = rw c.deref.ensures.value at c.in_ok-first.ensures in
-    let found = first_entry g.V.Keyed.key_of _ _ c.args.key c.self.invariant.places _ c.index-place.result.now c.remove-2.result first c.index-place.ensures c.if-place-key.false (search rules) few in
+    let found = first_entry g.V.Keyed.key_of _ _ c.args.key c.self.invariant.places _ c.index-place.result.now c.remove-2.result first
+    c.index-place.ensures c.if-place-key.false (search rules) few in
     rw (← c.self.view_is) (sym found.found)
 
 pub returns-clause-others : goal.returns-clause-others
 returns-clause-others g c =
     let few : length c.self.inside.entries.items ≤ 65536 = omega (arith, c.self.invariant.few, c.self.invariant.small) in
     let first : HasFirst c.self.inside.places.items c.args.key c.in_ok-first.first = rw c.deref.ensures.value at c.in_ok-first.ensures in
-    let found = first_entry g.V.Keyed.key_of _ _ c.args.key c.self.invariant.places _ c.index-place.result.now c.remove-2.result first c.index-place.ensures c.if-place-key.false (search rules) few in
+    let found = first_entry g.V.Keyed.key_of _ _ c.args.key c.self.invariant.places _ c.index-place.result.now c.remove-2.result first
+    c.index-place.ensures c.if-place-key.false (search rules) few in
     rw (← c.self.view_is) (rw c.from.ensures at c.remove-2.ensures.items ∙ sym found.left)

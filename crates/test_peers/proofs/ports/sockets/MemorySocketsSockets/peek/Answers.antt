@@ -10,5 +10,6 @@ returns-clause-shown c =
     let octets : List ℕ = c.copy_front-count.new.to in
     let count : ℕ = c.copy_front-count.result in
     let within : c.copy_front.result ≤ count = omega (arith, length-take count octets, c.copy_front.ensures.from) in
-    ap Some (map_replaced f c.args.self.now.seen.newcomers.items _ c.args.place _ (take c.copy_front.result octets) c.set_newcomer.ensures.set
+    ap Some (map_replaced f c.args.self.now.seen.newcomers.items _ c.args.place _
+    (take c.copy_front.result octets) c.set_newcomer.ensures.set
     (c.copy_front.ensures.copied ∙ take-take c.copy_front.result count octets within))

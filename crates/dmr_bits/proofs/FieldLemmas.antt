@@ -1,10 +1,12 @@
 -- Writing a field among bits, by whole octets.
-use Rattle.std.proofs.Common.{◌≡◌, ◌==◌, ℕ, ◌+◌, ◌-◌, ◌*◌, ◌/◌, ◌%◌, ◌^◌, ◌<◌, ◌≤◌, Bool, true, false, cond, List, get_or, bit_and, refl, sym, ap, ◌∙◌, arith, ltb, ⊎_elim}
+use Rattle.std.proofs.Common.{◌≡◌, ◌==◌, ℕ, ◌+◌, ◌-◌, ◌*◌, ◌/◌, ◌%◌, ◌^◌, ◌<◌, ◌≤◌, Bool, true, false, cond, List, get_or, bit_and, refl}
+use Rattle.std.proofs.Common.{sym, ap, ◌∙◌, arith, ltb, ⊎_elim}
 use Rattle.std.proofs.Math.Nat.{mod-eq_of_lt}
 use Rattle.std.proofs.lemmas.Bool.{lt-ltb, le-ltb, cases_lt}
 use Rattle.std.proofs.lemmas.Nat.{and_mask, one_shl, shr_high, mod_low, shl_whole}
 use Rattle.dmr_bits.specs.Bits.{octet_bit, bits_value}
-use Rattle.dmr_bits.proofs.BitLemmas.{bits_value-of_number, bits_value-below_number, bits_value-lt, bits_value-add, bits_value-same, bits_value-bit, bits_value-field}
+use Rattle.dmr_bits.proofs.BitLemmas.{bits_value-of_number, bits_value-below_number, bits_value-lt, bits_value-add, bits_value-same}
+use Rattle.dmr_bits.proofs.BitLemmas.{bits_value-bit, bits_value-field}
 
 -- bits, with those of a number in a field of them
 unfoldable pub field_bit : (ℕ → Bool) → ℕ → ℕ → ℕ → ℕ → Bool

@@ -1,5 +1,6 @@
 -- The table of codewords is that of the equations, the interleaving and the information's cells.
-use Rattle.std.proofs.Common.{◌≡◌, ◌==◌, ℕ, ◌+◌, ◌-◌, ◌/◌, ◌%◌, ◌^◌, ◌<◌, ◌≤◌, Bool, true, false, ◌&&◌, List, length, get_or, refl, sym, ap, ◌∙◌, arith, ⊎_elim}
+use Rattle.std.proofs.Common.{◌≡◌, ◌==◌, ℕ, ◌+◌, ◌-◌, ◌/◌, ◌%◌, ◌^◌, ◌<◌, ◌≤◌, Bool, true, false, ◌&&◌, List, length, get_or, refl, sym, ap}
+use Rattle.std.proofs.Common.{◌∙◌, arith, ⊎_elim}
 use Rattle.std.specs.Int.{bit_at}
 use Rattle.std.proofs.Math.Nat.{zero-div}
 use Rattle.std.proofs.lemmas.Bool.{agree_below, agree_below_at, eqb-true, cases_lt}
@@ -13,7 +14,8 @@ use Rattle.dmr_bptc.specs.Bptc.{row_equations, column_equations, cell, place_of,
 use Rattle.dmr_bptc.specs.Mending.{syndrome}
 use Rattle.dmr_bptc.proofs.TableLemmas.{agree_in, agree_in-at, agree_in_fours, agree_in_fours-at}
 use Rattle.dmr_bptc.proofs.CodewordSumLemmas.{bit-of_sum, codeword-from_sum}
-use Rattle.dmr_bptc.proofs.OddSumLemmas.{odd_below, odd_below-same, odd_below-none, odd_below-one, and_false, added_by}
+use Rattle.dmr_bptc.proofs.OddSumLemmas.{odd_below, odd_below-same, odd_below-none, odd_below-one, added_by}
+use Rattle.std.proofs.Math.Bool.{and-false}
 
 -- ---- the entries
 
@@ -98,7 +100,7 @@ sum_bit octets place = odd_below (λ k. octet_bit octets k && code_bit k place) 
 
 none : (octets : List ℕ) (place : ℕ) → none_has place 96 ≡ true → sum_bit octets place ≡ false
 none octets place is = odd_below-none (λ k. octet_bit octets k && code_bit k place) 96
-    (λ k lt. ap (λ b. octet_bit octets k && b) (none_has-at place 96 k is lt) ∙ and_false (octet_bit octets k))
+    (λ k lt. ap (λ b. octet_bit octets k && b) (none_has-at place 96 k is lt) ∙ and-false (octet_bit octets k))
 
 -- the four numbers that the table's entries add up to
 abbrev pub code_words : List ℕ → List ℕ

@@ -1,5 +1,6 @@
 -- The sums of a word in which one place is turned over: each changes by what the place adds.
-use Rattle.std.proofs.Common.{◌≡◌, ◌==◌, ℕ, zero, suc, ◌+◌, ◌-◌, ◌*◌, ◌/◌, ◌%◌, ◌^◌, ◌<◌, Bool, true, false, not, cond, List, [], ◌∷◌, get_or, bit_xor, refl, sym, ap, ◌∙◌, arith}
+use Rattle.std.proofs.Common.{◌≡◌, ◌==◌, ℕ, zero, suc, ◌+◌, ◌-◌, ◌*◌, ◌/◌, ◌%◌, ◌^◌, ◌<◌, Bool, true, false, not, cond, List, [], ◌∷◌}
+use Rattle.std.proofs.Common.{get_or, bit_xor, refl, sym, ap, ◌∙◌, arith}
 use Rattle.std.specs.Int.{bit_at}
 use Rattle.std.proofs.lemmas.Nat.{xor_lt}
 use Rattle.std.proofs.lemmas.Nat.Bits.{bit_at_xor}
@@ -14,7 +15,8 @@ use Rattle.dmr_bptc.specs.Sums.{AreSums, IsFlipped}
 use Rattle.dmr_bptc.proofs.BitSumLemmas.{parity-add, parity-all}
 use Rattle.dmr_bptc.proofs.ParityLemmas.{equation_at}
 use Rattle.dmr_bptc.proofs.OddSumLemmas.{odd_pair}
-use Rattle.dmr_bptc.proofs.SumTableLemmas.{sum_number, sum_entry, coefficient, bit_cond, four_of, syndrome-four, column_bit, row_bit, column_number-lt, row_number-lt, information_bit}
+use Rattle.dmr_bptc.proofs.SumTableLemmas.{sum_number, sum_entry, coefficient, bit_cond, four_of, syndrome-four, column_bit, row_bit}
+use Rattle.dmr_bptc.proofs.SumTableLemmas.{column_number-lt, row_number-lt, information_bit}
 
 -- ---- bits
 

@@ -17,3 +17,4 @@ pub mod MendingLemmas
 pub mod CodewordSumLemmas
 pub mod CodeTableLemmas
 pub mod MaskTableLemmas
+pub mod Laws

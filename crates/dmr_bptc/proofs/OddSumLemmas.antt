@@ -1,5 +1,6 @@
 -- Sums modulo 2 over the set bits of a word, and exclusive ors of numbers over them.
-use Rattle.std.proofs.Common.{◌≡◌, ◌==◌, ℕ, zero, suc, ◌+◌, ◌-◌, ◌*◌, ◌/◌, ◌%◌, ◌^◌, ◌<◌, Bool, true, false, cond, ◌&&◌, List, [], ◌∷◌, bit_xor, refl, sym, ap, ◌∙◌, arith, ⊎_elim}
+use Rattle.std.proofs.Common.{◌≡◌, ◌==◌, ℕ, zero, suc, ◌+◌, ◌-◌, ◌*◌, ◌/◌, ◌%◌, ◌^◌, ◌<◌, Bool, true, false, cond, ◌&&◌, List, [], ◌∷◌}
+use Rattle.std.proofs.Common.{bit_xor, refl, sym, ap, ◌∙◌, arith, ⊎_elim}
 use Rattle.std.specs.Int.{bit_at}
 use Rattle.std.specs.Int.Bits.{xor_assoc, xor_zero_r}
 use Rattle.std.proofs.lemmas.Bool.{cases_eq, eq-eqb, ne_eqb}
@@ -10,6 +11,7 @@ use Rattle.dmr_bits.proofs.Laws.{bits_value-bit}
 use Rattle.dmr_bptc.specs.Bptc.{add_bits, parity, Satisfies}
 use Rattle.dmr_bptc.specs.Groups.{added}
 use Rattle.dmr_bptc.proofs.BitSumLemmas.{add_bits-false, add_bits_middle}
+use Rattle.std.proofs.Math.Bool.{and-false}
 
 -- whether an odd number of the first n places pass
 unfoldable pub odd_below : (ℕ → Bool) → ℕ → Bool
@@ -36,10 +38,6 @@ and_true : (a : Bool) → (a && true) ≡ a
 and_true true = refl
 and_true false = refl
 
-pub and_false : (a : Bool) → (a && false) ≡ false
-and_false true = refl
-and_false false = refl
-
 and_add : (a b c : Bool) → (a && add_bits b c) ≡ add_bits (a && b) (a && c)
 and_add true b c = refl
 and_add false b c = refl
@@ -55,17 +53,17 @@ odd_below-one f place (suc n) lt =
     let none : odd_below (λ q. f q && (place == q)) n ≡ false =
     odd_below-none (λ q. f q && (place == q)) n
     (λ q q_lt. let miss : (place == q) ≡ false = ne_eqb place q (λ same. absurd (omega arith)) in ap (λ b. f q && b) miss
-    ∙ and_false (f q)) in
+    ∙ and-false (f q)) in
     (λ i. add_bits (f n && here i) (none i)) ∙ add_bits-false (f n && true) ∙ and_true (f n) ∙ ap f (sym e))
     (λ (ne : place ≡ n → ⊥).
     let miss : (place == n) ≡ false = ne_eqb place n ne in
-    (λ i. add_bits ((ap (λ b. f n && b) miss ∙ and_false (f n)) i) (odd_below-one f place n (omega arith) i)))
+    (λ i. add_bits ((ap (λ b. f n && b) miss ∙ and-false (f n)) i) (odd_below-one f place n (omega arith) i)))
     (cases_eq place n)
 
 -- the sum over the places of bits is the sum over the bits at these places
 pub odd_below-parity : (f : ℕ → Bool) (place : ℕ → ℕ) (n : ℕ) → ((k : ℕ) → place k < n) → (ks : List ℕ)
     → odd_below (λ q. f q && parity (λ k. place k == q) ks) n ≡ parity (λ k. f (place k)) ks
-odd_below-parity f place n inside [] = odd_below-none (λ q. f q && false) n (λ q lt. and_false (f q))
+odd_below-parity f place n inside [] = odd_below-none (λ q. f q && false) n (λ q lt. and-false (f q))
 odd_below-parity f place n inside (k ∷ ks) =
     odd_below-same (λ q. f q && add_bits (place k == q) (parity (λ k. place k == q) ks))
     (λ q. add_bits (f q && (place k == q)) (f q && parity (λ k. place k == q) ks)) n
@@ -76,7 +74,7 @@ odd_below-parity f place n inside (k ∷ ks) =
 -- the order of a sum of sums of lines may be exchanged
 odd_below-swap : (bit : ℕ → Bool) (f : ℕ → ℕ → Bool) (n : ℕ) (js : List ℕ) →
     odd_below (λ k. bit k && parity (f k) js) n ≡ parity (λ j. odd_below (λ k. bit k && f k j) n) js
-odd_below-swap bit f n [] = odd_below-none (λ k. bit k && false) n (λ k lt. and_false (bit k))
+odd_below-swap bit f n [] = odd_below-none (λ k. bit k && false) n (λ k lt. and-false (bit k))
 odd_below-swap bit f n (j ∷ js) =
     odd_below-same (λ k. bit k && add_bits (f k j) (parity (f k) js)) (λ k. add_bits (bit k && f k j) (bit k && parity (f k) js)) n
     (λ k lt. and_add (bit k) (f k j) (parity (f k) js))

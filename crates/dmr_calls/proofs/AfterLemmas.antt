@@ -1,5 +1,6 @@
 -- Going round the slots: the call that is found is the next talkgroup call.
-use Rattle.std.proofs.Common.{arith, ◌≡◌, ℕ, zero, suc, ◌+◌, ◌-◌, ◌<◌, ◌≤◌, inl, inr, List, [], ◌∷◌, Bool, true, false, refl, sym, ◌∙◌, subst, ap}
+use Rattle.std.proofs.Common.{arith, ◌≡◌, ℕ, zero, suc, ◌+◌, ◌-◌, ◌<◌, ◌≤◌, inl, inr, List, [], ◌∷◌, Bool, true, false, refl, sym, ◌∙◌}
+use Rattle.std.proofs.Common.{subst, ap}
 use Rattle.std.specs.Prelude.{◌/◌, ◌%◌, Option, Some, None, MatchOption, IfSome, find}
 use Rattle.std.specs.List.{range_with_len}
 use Rattle.std.specs.Option.{option_and_then, option_map_or, option_or}
@@ -10,7 +11,9 @@ use Rattle.dmr_calls.specs.declared.call.Call.{Call}
 use Rattle.dmr_calls.specs.declared.call.ActiveCall.{ActiveCall}
 use Rattle.dmr_calls.specs.Calls.{call_on, is_slot}
 use Rattle.dmr_pdu.specs.Slots.{IsSlot, place, slot_at}
-use Rattle.dmr_calls.specs.After.{is_group_on, is_group_at, place_after, group_place, group_after, IsBelow, IsAbove, HasNoGroupCall, IsNextGroupCall, IsFirst, IsNext, IsTurn, NonePass}
+use Rattle.dmr_calls.specs.After.{is_group_on, is_group_at, place_after, group_place, group_after, IsBelow, IsAbove, HasNoGroupCall}
+use Rattle.dmr_calls.specs.After.{IsNextGroupCall, IsFirst, IsNext, IsTurn, NonePass}
+use Rattle.dmr_pdu.proofs.ListLaws.{place-slot_at}
 
 -- if one more place does not pass, none passes from there on
 none_more : (passes : ℕ → Bool) (from to : ℕ) → passes from ≡ false → NonePass passes (from + 1) to → NonePass passes from to
@@ -52,10 +55,6 @@ slot_at-place slot small =
     let carrier : place slot / 2 ≡ slot.carrier = omega (arith, small) in
     let number : place slot % 2 ≡ slot.slot = omega (arith, small) in
     λ i. record { carrier = carrier i; slot = number i }
-
--- a place is that of its slot
-pub place-slot_at : (k : ℕ) → place (slot_at k) ≡ k
-place-slot_at k = omega arith
 
 -- a slot of the site is below another if its place is lower
 pub below-place : (a b : Slot) → a.slot < 2 → b.slot < 2 → IsBelow a b → place a < place b

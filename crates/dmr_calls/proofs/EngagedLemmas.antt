@@ -1,5 +1,5 @@
 -- A radio is engaged exactly if it is a party to a call, an ask or a line.
-use Rattle.std.proofs.Common.{◌≡◌, ℕ, List, [], ◌∷◌, Bool, refl, ◌∙◌, arith}
+use Rattle.std.proofs.Common.{◌≡◌, ℕ, refl, ◌∙◌}
 use Rattle.std.specs.Prelude.{◌||◌, Option, Some, None, find, is_some, option_map}
 use Rattle.std.specs.List.{list_any}
 use Rattle.std.specs.Option.{option_or}
@@ -7,12 +7,9 @@ use Rattle.dmr_calls.specs.declared.ask.ActiveAsk.{ActiveAsk}
 use Rattle.dmr_calls.specs.declared.call.ActiveCall.{ActiveCall}
 use Rattle.dmr_calls.specs.declared.answer.Engagement.TheVariants.{CallOf, AskOf, LineOf}
 use Rattle.dmr_calls.specs.ActiveLists.{ActiveLists}
-use Rattle.dmr_calls.specs.Engaged.{is_party_to_call, is_party_to_ask, is_party_to_line, call_of, ask_with, line_with, engagement_of, is_engaged}
-
--- an element passes a test exactly if one that passes is found
-some_found : {X : Type 0} (test : X → Bool) (xs : List X) → is_some (find test xs) ≡ list_any test xs
-some_found test [] = refl
-some_found test (x ∷ xs) = let more = some_found test xs in grind arith
+use Rattle.dmr_calls.specs.Engaged.{is_party_to_call, is_party_to_ask, is_party_to_line, call_of, ask_with, line_with, engagement_of}
+use Rattle.dmr_calls.specs.Engaged.{is_engaged}
+use Rattle.dmr_pdu.proofs.ListLaws.{is_some-find}
 
 -- an element is found exactly if it is found in another form
 some_mapped : {X Y : Type 0} (f : X → Y) (o : Option X) → is_some (option_map f o) ≡ is_some o
@@ -32,11 +29,11 @@ some_engaged now radio =
     let asks = find (is_party_to_ask radio) now.asks in
     let call : is_some (option_map CallOf (call_of now.calls radio)) ≡ list_any (is_party_to_call radio) now.calls =
     some_mapped CallOf (call_of now.calls radio) ∙ some_mapped (λ (s : ActiveCall). s.call) calls
-    ∙ some_found (is_party_to_call radio) now.calls in
+    ∙ is_some-find (is_party_to_call radio) now.calls in
     let ask : is_some (option_map AskOf (ask_with now.asks radio)) ≡ list_any (is_party_to_ask radio) now.asks =
     some_mapped AskOf (ask_with now.asks radio) ∙ some_mapped (λ (a : ActiveAsk). a.ask) asks
-    ∙ some_found (is_party_to_ask radio) now.asks in
+    ∙ is_some-find (is_party_to_ask radio) now.asks in
     let line : is_some (option_map LineOf (line_with now.lines radio)) ≡ list_any (is_party_to_line radio) now.lines =
-    some_mapped LineOf (line_with now.lines radio) ∙ some_found (is_party_to_line radio) now.lines in
+    some_mapped LineOf (line_with now.lines radio) ∙ is_some-find (is_party_to_line radio) now.lines in
     some_of_three (option_map CallOf (call_of now.calls radio)) (option_map AskOf (ask_with now.asks radio))
     (option_map LineOf (line_with now.lines radio)) ∙ cc (call, ask, line)

@@ -8,7 +8,7 @@ use Rattle.dmr_calls.specs.Calls.{call_on}
 use Rattle.dmr_calls.specs.After.{group_after, place_after, HasNoGroupCall, IsTurn}
 use Rattle.dmr_calls.proofs.AfterLemmas.{turn_of}
 -- a slot is the one at its place, a place is that of its slot, and slots are the same if the test says so
-pub use Rattle.dmr_calls.proofs.AfterLemmas.{slot_at-place, place-slot_at, same_slot}
+pub use Rattle.dmr_calls.proofs.AfterLemmas.{slot_at-place, same_slot}
 
 -- the next talkgroup call is an active talkgroup call
 pub next_is_active : (calls : List ActiveCall) (last : Option Slot) → IfSome (group_after calls last)

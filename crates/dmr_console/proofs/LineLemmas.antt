@@ -1,5 +1,6 @@
 -- The octets that a cutter keeps of an open line, the lines of streams, and streams in pieces.
-use Rattle.std.proofs.Common.{◌≡◌, ◌≢◌, ℕ, ◌-◌, ◌<◌, Bool, true, false, cond, List, [], ◌∷◌, ◌++◌, length, eqb, ltb, take, slice_index_or, refl, sym, ap, ◌∙◌, arith, map, append_assoc, length-append, length-take-le, All, Result, Ok, Err, ◌↔◌}
+use Rattle.std.proofs.Common.{◌≡◌, ◌≢◌, ℕ, ◌-◌, ◌<◌, Bool, true, false, cond, List, [], ◌∷◌, ◌++◌, length, eqb, ltb, take, slice_index_or}
+use Rattle.std.proofs.Common.{refl, sym, ap, ◌∙◌, arith, map, append_assoc, length-append, length-take-le, All, Result, Ok, Err, ◌↔◌}
 use Rattle.std.specs.Result.{IsOk, OnOk, OnErr}
 use Rattle.std.specs.List.{flat_map, fold, scan}
 use Rattle.std.proofs.lemmas.Bool.{ltb-true, ltb-false, lt-ltb, ne_eqb}

@@ -2,7 +2,8 @@
 use Rattle.std.proofs.Common.{◌≡◌, [], ◌∷◌, Some, None, true, false, codes, refl}
 use Rattle.std.specs.Fmt.{digits}
 use Rattle.dmr_core.specs.declared.reply.State.TheVariants as state
-use Rattle.dmr_core.specs.declared.reply.Reply.TheVariants.{Status, Radios, Calls, Lines, Slots, Done, NotRegistered, Busy, NoCall, NoCarrier}
+use Rattle.dmr_core.specs.declared.reply.Reply.TheVariants.{Status, Radios, Calls, Lines, Slots, Done, NotRegistered, Busy, NoCall}
+use Rattle.dmr_core.specs.declared.reply.Reply.TheVariants.{NoCarrier}
 use Rattle.dmr_console.specs.Texts.{text_of_reply}
 
 status_aloha : text_of_reply (Status 2 1001 0 10 3 None) ≡ codes "status carriers 2 radios 1001 asks 0 lines 10 calls 3 fill aloha\n"

@@ -1,5 +1,7 @@
 -- The first word of a line.
-use Rattle.std.proofs.Common.{◌≡◌, ◌&&◌, get_or, add-one, pow-suc, ◌*◌, ◌^◌, ℕ, ◌+◌, ◌-◌, ◌<◌, ◌≤◌, Bool, true, false, cond, not, List, [], ◌∷◌, length, take, drop, eqb, ltb, refl, sym, ap, ◌∙◌, arith, suc, zero, filter, Option, Some, None, unwrap_or, length-drop, subst}
+use Rattle.std.proofs.Common.{◌≡◌, ◌&&◌, get_or, add-one, pow-suc, ◌*◌, ◌^◌, ℕ, ◌+◌, ◌-◌, ◌<◌, ◌≤◌, Bool, true, false, cond, not, List, []}
+use Rattle.std.proofs.Common.{◌∷◌, length, take, drop, eqb, ltb, refl, sym, ap, ◌∙◌, arith, suc, zero, filter, Option, Some, None}
+use Rattle.std.proofs.Common.{unwrap_or, length-drop, subst}
 use Rattle.std.proofs.lemmas.Bool.{ltb-true, ltb-false}
 use Rattle.std.proofs.lemmas.List.{take_all, drop_more}
 use Rattle.std.proofs.lemmas.Str.{digit_value_digit}

@@ -24,10 +24,12 @@ use Rattle.dmr_core.specs.Rules.{acts_of, grant_pdu}
 use Rattle.dmr_core.specs.Journal.{IsLegal}
 use Rattle.dmr_core.specs.Sound.{IsSound, engagements_in_call, is_grant, is_own, party}
 use Rattle.dmr_core.specs.May.{AllMayDo, MayDo, MayName}
-use Rattle.dmr_core.specs.Laws.{BeginsOnFree, EachAct, GrantsKnown, NamesKnown, QuietActs, QuietAfterReset, SendsOwn, Throughout, grants_on, has_call, is_reset, names_carrier, reset_by_act, reset_by_event}
+use Rattle.dmr_core.specs.Laws.{BeginsOnFree, EachAct, GrantsKnown, NamesKnown, QuietActs, QuietAfterReset, SendsOwn, Throughout, grants_on}
+use Rattle.dmr_core.specs.Laws.{has_call, is_reset, names_carrier, reset_by_act, reset_by_event}
 use Rattle.dmr_core.proofs.PlanLemmas.{KnowsPlan}
 use Rattle.dmr_core.proofs.NumberLemmas.{equal_itself}
-use Rattle.dmr_core.proofs.ListLemmas.{any-filter, any-map, any-push, find_any, first_found, mapped_some, none-filtered, total_some, true_false}
+use Rattle.dmr_core.proofs.ListLemmas.{any-filter, any-map, any-push, find_any, first_found, mapped_some, none-filtered, total_some}
+use Rattle.dmr_core.proofs.ListLemmas.{true_false}
 use Rattle.dmr_core.proofs.FactsFollowEntries.{facts_after-step}
 use Rattle.dmr_core.proofs.SlotsStaySound.{IsFree, free_is}
 use Rattle.dmr_core.proofs.GrantsAreOwn.{named_own, call_is_active, own_itself, not_grant_own}

@@ -17,7 +17,8 @@ use Rattle.dmr_core.specs.May.{AllMayDo, MayDo}
 use Rattle.dmr_core.proofs.PlanLemmas.{KnowsPlan}
 use Rattle.dmr_core.proofs.SlotsStaySound.{pool-put, calls-put, all_more, all-drop, any_more, any-drop, named_there}
 use Rattle.dmr_core.proofs.GrantsAreOwn.{calls-begun, calls-filter, named_own}
-use Rattle.dmr_core.proofs.RadiosEngagedOnce.{fewer_engaged, fewer_asks, fewer_calls, fewer_lines, one_more_engaged, radios-joined, radios-left, with_ask, with_call, with_line}
+use Rattle.dmr_core.proofs.RadiosEngagedOnce.{fewer_engaged, fewer_asks, fewer_calls, fewer_lines, one_more_engaged, radios-joined}
+use Rattle.dmr_core.proofs.RadiosEngagedOnce.{radios-left, with_ask, with_call, with_line}
 use Rattle.dmr_core.proofs.FillsAreLateEntries.{access-filled}
 use Rattle.dmr_core.proofs.LimitsAreKept.{asks-fewer, asks-more, lines-fewer, lines-more}
 use Rattle.dmr_core.proofs.ListLemmas.{true_false}

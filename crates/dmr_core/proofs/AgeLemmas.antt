@@ -1,5 +1,6 @@
 -- Ages count ticks.
-use Rattle.std.proofs.Common.{◌≡◌, ◌≤◌, ◌+◌, ℕ, List, [], ◌∷◌, ◌++◌, Bool, true, false, refl, sym, ◌∙◌, ap, subst, arith, map, filter, min, inl, inr}
+use Rattle.std.proofs.Common.{◌≡◌, ◌≤◌, ◌+◌, ℕ, List, [], ◌∷◌, ◌++◌, Bool, true, false, refl, sym, ◌∙◌, ap, subst, arith, map, filter, min}
+use Rattle.std.proofs.Common.{inl, inr}
 use Rattle.std.specs.Prelude.{fold, find, Option, Some, None, option_map, if◌then◌else◌, not, ◌==◌, ◌||◌}
 use Rattle.std.specs.List.{list_any, All}
 use Rattle.std.specs.Option.{option_map_or}
@@ -26,7 +27,8 @@ use Rattle.dmr_core.specs.Journal.{IsLegal}
 use Rattle.dmr_core.specs.Sound.{IsSound}
 use Rattle.dmr_core.specs.May.{MayDo}
 use Rattle.dmr_core.specs.Laws.{EachAct, Throughout}
-use Rattle.dmr_core.specs.Ages.{age_on, asked_in, begins_on, is_active, is_asked, is_begin, quiet_on, is_active_on, ticks_in, ticks_since, waited_of}
+use Rattle.dmr_core.specs.Ages.{age_on, asked_in, begins_on, is_active, is_asked, is_begin, quiet_on, is_active_on, ticks_in, ticks_since}
+use Rattle.dmr_core.specs.Ages.{waited_of}
 use Rattle.dmr_core.proofs.PlanLemmas.{KnowsPlan}
 use Rattle.dmr_core.proofs.CallsAreApart.{same_slots, marked_call}
 use Rattle.dmr_core.proofs.SlotsStaySound.{free_is}

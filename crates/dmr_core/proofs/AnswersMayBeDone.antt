@@ -1,5 +1,6 @@
 -- The acts of each rule may be done.
-use Rattle.std.proofs.Common.{◌≡◌, ◌<◌, ◌≤◌, ◌+◌, ℕ, List, [], ◌∷◌, ◌++◌, Bool, true, false, refl, sym, ◌∙◌, ap, subst, arith, map, length, drop}
+use Rattle.std.proofs.Common.{◌≡◌, ◌<◌, ◌≤◌, ◌+◌, ℕ, List, [], ◌∷◌, ◌++◌, Bool, true, false, refl, sym, ◌∙◌, ap, subst, arith, map, length}
+use Rattle.std.proofs.Common.{drop}
 use Rattle.std.specs.Prelude.{fold, Option, Some, None, if◌then◌else◌, ◌&&◌, not, find, option_map, ◌==◌, nat_le, nat_lt}
 use Rattle.std.specs.List.{list_any}
 use Rattle.std.proofs.lemmas.Bool.{false_from_ne_true, and_parts}
@@ -31,12 +32,16 @@ use Rattle.dmr_core.specs.declared.act.Act.{Act}
 use Rattle.dmr_core.specs.declared.act.Act.TheVariants.{AskOver, Asked, Fill, Joined, Left, Queue, Unlined}
 use Rattle.dmr_core.specs.Facts.{Facts, facts_after_act, facts_after_event, has_carrier}
 use Rattle.dmr_core.specs.Words.{has_room, is_engaged, is_free, is_registered, is_up, lowest_free, lpcn_of, outbox, has_call_on}
-use Rattle.dmr_core.specs.Rules.{ack, acts_of, ahoy, acts_for_called_radio, begin, call_of_line, acts_for_cancel, clear, close, answer_to_command, acts_for_due_call, grant, acts_for_pdu, acts_for_individual_request, late_entry, acts_for_leaving, acts_for_new_call, acts_for_slot, acts_for_registration, acts_for_due_ask, acts_for_request, acts_for_outbox, acts_for_line, acts_for_tick}
+use Rattle.dmr_core.specs.Rules.{ack, acts_of, ahoy, acts_for_called_radio, begin, call_of_line, acts_for_cancel, clear, close}
+use Rattle.dmr_core.specs.Rules.{answer_to_command, acts_for_due_call, grant, acts_for_pdu, acts_for_individual_request, late_entry}
+use Rattle.dmr_core.specs.Rules.{acts_for_leaving, acts_for_new_call, acts_for_slot, acts_for_registration, acts_for_due_ask}
+use Rattle.dmr_core.specs.Rules.{acts_for_request, acts_for_outbox, acts_for_line, acts_for_tick}
 use Rattle.dmr_core.specs.Sound.{IsSound, engagements, engagements_in_ask, engagements_in_line, is_grant, party}
 use Rattle.dmr_core.specs.May.{AllMayDo, MayDo, MayEngage}
 use Rattle.dmr_core.proofs.PlanLemmas.{KnowsPlan}
 use Rattle.dmr_core.proofs.NumberLemmas.{equal_itself, not_itself}
-use Rattle.dmr_core.proofs.ListLemmas.{find_any, first_found, total-filter, total-ones, total_found, total_some, length-filter_le, any-filter, true_false, mapped_some}
+use Rattle.dmr_core.proofs.ListLemmas.{find_any, first_found, total-filter, total-ones, total_found, total_some, length-filter_le}
+use Rattle.dmr_core.proofs.ListLemmas.{any-filter, true_false, mapped_some}
 use Rattle.dmr_core.proofs.FreeLemmas.{granted_known}
 use Rattle.dmr_core.proofs.ChoiceLemmas.{by_drop, by_end, by_if, by_option, lowest_is_free}
 use Rattle.dmr_core.proofs.SlotsStaySound.{IsFree, free_is, other_place, any_more}
@@ -44,7 +49,8 @@ use Rattle.dmr_core.proofs.GrantsAreOwn.{found_is_active, call_is_active}
 use Rattle.dmr_core.proofs.FillsAreLateEntries.{fill_may}
 use Rattle.dmr_core.proofs.ActsKeepSound.{sound-acts, may-append}
 use Rattle.dmr_core.proofs.EventsKeepSound.{sound-noted, put_either}
-use Rattle.dmr_core.proofs.PartsMayBeDone.{LeavesRoom, MayAnswer, ack_after, ack_may, after, after_acts, begin_may, clear_may, engage, few_with_free, lowest_small, queue_leaves, queue_may}
+use Rattle.dmr_core.proofs.PartsMayBeDone.{LeavesRoom, MayAnswer, ack_after, ack_may, after, after_acts, begin_may, clear_may, engage}
+use Rattle.dmr_core.proofs.PartsMayBeDone.{few_with_free, lowest_small, queue_leaves, queue_may}
 use Rattle.dmr_core.proofs.TalkgroupMayBeDone.{found_may, new_call_may, talkgroup_may}
 use Rattle.dmr_core.proofs.ClosingMayBeDone.{IsCleared, cleared_is, Closes, close_closes, control_apart, found_up}
 

@@ -1,5 +1,6 @@
 -- The noise numbers count the Noises of the definition.
-use Rattle.std.proofs.Common.{◌≡◌, ◌≤◌, ◌+◌, ◌-◌, ℕ, zero, suc, List, [], ◌∷◌, Bool, true, false, refl, sym, ◌∙◌, ap, arith, length, take, min, sum, inl, inr}
+use Rattle.std.proofs.Common.{◌≡◌, ◌≤◌, ◌+◌, ◌-◌, ℕ, zero, suc, List, [], ◌∷◌, Bool, true, false, refl, sym, ◌∙◌, ap, arith, length, take}
+use Rattle.std.proofs.Common.{min, sum, inl, inr}
 use Rattle.std.specs.Prelude.{fold, replicate, if◌then◌else◌, ◌==◌, slice_set, slice_index_or}
 use Rattle.std.proofs.lemmas.Bool.Decides.{nat_tests}
 use Rattle.std.proofs.lemmas.List.{get_or-set_other, take-take, take_all}
@@ -17,11 +18,11 @@ use Rattle.dmr_core.specs.Journal.{IsLegal}
 use Rattle.dmr_core.specs.Sound.{IsSound}
 use Rattle.dmr_core.specs.Backoff.{noises_with_event, noises_within, recent_noises}
 use Rattle.dmr_core.proofs.ListLemmas.{true_false}
-use Rattle.dmr_core.proofs.NumberLemmas.{flipped}
 use Rattle.dmr_core.proofs.EventsKeepSound.{cleared}
 use Rattle.dmr_core.proofs.PlansAreKnown.{plan_known}
 use Rattle.dmr_core.proofs.LastLemmas.{same_after}
 use Rattle.dmr_core.proofs.ActsAreSafe.{sound_after}
+use Rattle.dmr_pdu.proofs.ListLaws.{flipped}
 
 no_sum : (m n : ℕ) → sum (take n (replicate m 0)) ≡ 0
 no_sum zero zero = refl

@@ -1,5 +1,6 @@
 -- Sound facts stay sound through each event.
-use Rattle.std.proofs.Common.{◌≡◌, ◌<◌, ◌≤◌, ◌+◌, ◌*◌, ℕ, zero, suc, List, [], ◌∷◌, Bool, true, false, refl, sym, ◌∙◌, ap, subst, arith, map, length, ◌⊎◌, inl, inr, set, get_or, length-set}
+use Rattle.std.proofs.Common.{◌≡◌, ◌<◌, ◌≤◌, ◌+◌, ◌*◌, ℕ, zero, suc, List, [], ◌∷◌, Bool, true, false, refl, sym, ◌∙◌, ap, subst, arith}
+use Rattle.std.proofs.Common.{map, length, ◌⊎◌, inl, inr, set, get_or, length-set}
 use Rattle.std.specs.Prelude.{Option, None, if◌then◌else◌, ◌&&◌, not, ◌==◌, slice_set, slice_index_or}
 use Rattle.std.specs.List.{list_any, list_all}
 use Rattle.std.proofs.lemmas.Bool.{cases_Bool, cases_lt, cond_both, false_from_ne_true, eqb-true, eqb-false, and_parts, not-true}
@@ -22,14 +23,15 @@ use Rattle.dmr_core.specs.declared.event.Event.TheVariants.{Active, Lost, Noise,
 use Rattle.dmr_core.specs.declared.named.NamedSlot.{NamedSlot}
 use Rattle.dmr_core.specs.Facts.{Facts, has_carrier, facts_after_event}
 use Rattle.dmr_core.specs.Words.{is_up}
-use Rattle.dmr_core.specs.Sound.{AreAsksSound, AreCallsSound, AreLinesSound, AreRadiosSound, IsAccessSound, IsPayload, IsPoolSound, IsSound, engagements, engagements_in_ask, engagements_in_call, engagements_in_line, is_grant, is_own, party, total}
+use Rattle.dmr_core.specs.Sound.{AreAsksSound, AreCallsSound, AreLinesSound, AreRadiosSound, IsAccessSound, IsPayload, IsPoolSound, IsSound}
+use Rattle.dmr_core.specs.Sound.{engagements, engagements_in_ask, engagements_in_call, engagements_in_line, is_grant, is_own, party, total}
 use Rattle.dmr_core.proofs.PlanLemmas.{KnowsPlan}
-use Rattle.dmr_core.proofs.NumberLemmas.{flipped}
 use Rattle.dmr_core.proofs.ListLemmas.{total-filter, total-map, any-map, true_false}
 use Rattle.dmr_core.proofs.CallsAreApart.{apart-map, has_call_on-map, marked_call, has_call_on-filter}
 use Rattle.dmr_core.proofs.GrantsAreOwn.{calls-filter}
 use Rattle.dmr_core.proofs.LimitsAreKept.{IsCounted, IsWaitCounted}
 use Rattle.dmr_core.proofs.RadiosEngagedOnce.{fewer_engaged}
+use Rattle.dmr_pdu.proofs.ListLaws.{flipped}
 
 -- each call is changed, but to what it says of the call itself
 module _ (f : ActiveCall → ActiveCall) (same : (s : ActiveCall) → (f s).call ≡ s.call) where

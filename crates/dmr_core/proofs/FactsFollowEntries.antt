@@ -4,7 +4,8 @@ use Rattle.std.specs.Prelude.{fold}
 use Rattle.dmr_plan.specs.declared.settings.Settings.{Settings}
 use Rattle.dmr_core.specs.declared.act.Act.{Act}
 use Rattle.dmr_core.specs.declared.entry.Entry.{Entry}
-use Rattle.dmr_core.specs.Facts.{Facts, facts_after, facts_after_event, facts_after_act, same_as_before, registered_by_act, asks_by_act, lines_by_act, calls_by_act, outboxes_by_act, fills_by_act, late_by_act}
+use Rattle.dmr_core.specs.Facts.{Facts, facts_after, facts_after_event, facts_after_act, same_as_before, registered_by_act, asks_by_act}
+use Rattle.dmr_core.specs.Facts.{lines_by_act, calls_by_act, outboxes_by_act, fills_by_act, late_by_act}
 
 abbrev each : Facts → List Act → Facts
 each f acts = record {

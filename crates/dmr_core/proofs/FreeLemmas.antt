@@ -9,7 +9,8 @@ use Rattle.dmr_plan.specs.declared.settings.Settings.{Settings}
 use Rattle.dmr_plan.specs.declared.carriers.CarrierRow.{CarrierRow}
 use Rattle.dmr_plan.specs.Carriers.{has_number_in, row_with}
 use Rattle.dmr_pool.specs.Slots.{Slots, IsSlot, slot_at, box, is_up}
-use Rattle.dmr_pool.specs.Free.{control_slot, is_control, is_empty, is_free as is_free_in, is_granted, lowest_free as lowest_free_in, lowest_free_by, names}
+use Rattle.dmr_pool.specs.Free.{control_slot, is_control, is_empty, is_free as is_free_in, is_granted, lowest_free as lowest_free_in}
+use Rattle.dmr_pool.specs.Free.{lowest_free_by, names}
 use Rattle.dmr_core.specs.Facts.{Facts, has_carrier}
 use Rattle.dmr_core.specs.Words.{is_free, lowest_free, lpcn_of}
 use Rattle.dmr_core.specs.Held.{HoldsCalls}

@@ -1,5 +1,6 @@
 -- The slots that are held stay those of the calls.
-use Rattle.std.proofs.Common.{◌≡◌, ◌<◌, ◌≢◌, ◌+◌, ◌*◌, ℕ, List, [], ◌∷◌, ◌++◌, Bool, true, false, refl, sym, ◌∙◌, subst, arith, length, length-set, map, inl, inr}
+use Rattle.std.proofs.Common.{◌≡◌, ◌<◌, ◌≢◌, ◌+◌, ◌*◌, ℕ, List, [], ◌∷◌, ◌++◌, Bool, true, false, refl, sym, ◌∙◌, subst, arith, length}
+use Rattle.std.proofs.Common.{length-set, map, inl, inr}
 use Rattle.std.specs.Prelude.{not, ◌||◌, ◌&&◌, ◌==◌, slice_set, slice_index_or, replicate}
 use Rattle.std.proofs.lemmas.Bool.{cases_Bool, cases_lt, eqb-true, or_right}
 use Rattle.std.proofs.lemmas.Bool.Decides.{nat_tests}
@@ -13,9 +14,10 @@ use Rattle.dmr_pool.specs.Slots.{IsSlot, place, is_slot_held, held_without_carri
 use Rattle.dmr_calls.proofs.Laws.{same_slot}
 use Rattle.dmr_core.specs.Words.{has_call_on}
 use Rattle.dmr_core.specs.Held.{HoldsCalls}
-use Rattle.dmr_core.proofs.ListLemmas.{any-push, replicated}
+use Rattle.dmr_core.proofs.ListLemmas.{any-push}
 use Rattle.dmr_core.proofs.CallsAreApart.{has_call_on-filter, has_call_on-map, marked_call, same_slots}
 use Rattle.dmr_core.proofs.SlotsStaySound.{other_place}
+use Rattle.dmr_pdu.proofs.ListLaws.{replicated}
 
 -- a slot whose place is written, and another
 written : (held : List Bool) (a : Slot) (b : Bool) → place a < length held → is_slot_held (slice_set held (place a) b) a ≡ b

@@ -1,5 +1,6 @@
 -- A radio is registered, and a carrier up, exactly if the last opener or closer is an opener.
-use Rattle.std.proofs.Common.{◌≡◌, ◌<◌, ℕ, List, [], ◌∷◌, ◌++◌, Bool, true, false, refl, sym, ◌∙◌, ap, subst, arith, filter, length, length-set, inl, inr}
+use Rattle.std.proofs.Common.{◌≡◌, ◌<◌, ℕ, List, [], ◌∷◌, ◌++◌, Bool, true, false, refl, sym, ◌∙◌, ap, subst, arith, filter, length}
+use Rattle.std.proofs.Common.{length-set, inl, inr}
 use Rattle.std.specs.Prelude.{fold, Option, Some, None, unwrap_or, if◌then◌else◌, ◌&&◌, not, ◌==◌, slice_set, slice_index_or}
 use Rattle.std.specs.List.{list_any}
 use Rattle.std.proofs.lemmas.Bool.Decides.{nat_tests}
@@ -15,8 +16,8 @@ use Rattle.dmr_core.specs.Facts.{Facts, facts_after, since, same_as_before, regi
 use Rattle.dmr_core.specs.Words.{is_registered, is_up}
 use Rattle.dmr_core.specs.Last.{or_earlier, last_given, value_after, no_event, no_act, of_registration, of_carrier}
 use Rattle.dmr_core.proofs.ListLemmas.{any-push}
-use Rattle.dmr_core.proofs.NumberLemmas.{flipped}
 use Rattle.dmr_core.proofs.EventsKeepSound.{cleared}
+use Rattle.dmr_pdu.proofs.ListLaws.{flipped}
 
 joined_one : (rs : List ℕ) (q r : ℕ)
     → list_any (λ p. p == r) (rs ++ q ∷ []) ≡ unwrap_or (if q == r then Some true else None) (list_any (λ p. p == r) rs)

@@ -21,7 +21,8 @@ use Rattle.dmr_core.specs.declared.act.Act.{Act}
 use Rattle.dmr_core.specs.declared.act.Act.TheVariants.{AskOver, Asked, Began, Ended, Fill, Lined, Unlined}
 use Rattle.dmr_core.specs.declared.entry.Entry.{Entry}
 use Rattle.dmr_core.specs.declared.named.NamedSlot.{NamedSlot}
-use Rattle.dmr_core.specs.Facts.{Facts, asks_by_event, calls_by_event, facts_after_act, facts_after, late_by_act, late_by_event, lines_by_event, moving_by_event, facts_after_event}
+use Rattle.dmr_core.specs.Facts.{Facts, asks_by_event, calls_by_event, facts_after_act, facts_after, late_by_act, late_by_event}
+use Rattle.dmr_core.specs.Facts.{lines_by_event, moving_by_event, facts_after_event}
 use Rattle.dmr_core.specs.Words.{has_call_on}
 use Rattle.dmr_core.specs.Journal.{IsLegal}
 use Rattle.dmr_core.specs.Sound.{IsSound, engagements_in_line, total}

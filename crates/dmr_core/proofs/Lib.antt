@@ -37,5 +37,6 @@ mod FreeLemmas
 mod EqualityLemmas
 pub mod ConsoleLemmas
 pub mod PollSizes
+pub mod JournalLaws
 pub mod CoreLaws
 pub mod CommandLaws

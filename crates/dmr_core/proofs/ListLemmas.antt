@@ -1,5 +1,5 @@
 -- Lists after elements were added at the end, removed, and changed in place, and the elements found in them.
-use Rattle.std.proofs.Common.{◌≡◌, ◌≤◌, ◌+◌, ℕ, zero, suc, List, [], ◌∷◌, ◌++◌, Bool, true, false, refl, arith, map, filter, length, get_or, replicate}
+use Rattle.std.proofs.Common.{◌≡◌, ◌≤◌, ◌+◌, ℕ, List, [], ◌∷◌, ◌++◌, Bool, true, false, refl, arith, map, filter, length}
 use Rattle.std.specs.Prelude.{find, if◌then◌else◌, not, option_map, slice_get, Option, Some, None, ◌||◌, ◌&&◌, ◌==◌}
 use Rattle.std.proofs.lemmas.Bool.Decides.{nat_tests}
 use Rattle.std.specs.List.{list_any}
@@ -7,12 +7,6 @@ use Rattle.dmr_core.specs.Sound.{total}
 
 pub true_false : {X : Type 0} (b : Bool) → b ≡ true → b ≡ false → X
 true_false b h k = cc
-
--- a list of one value has it everywhere
-pub replicated : {X : Type 0} (n i : ℕ) (x : X) → get_or (replicate n x) i x ≡ x
-replicated zero i x = refl
-replicated (suc n) zero x = refl
-replicated (suc n) (suc i) x = replicated n i x
 
 -- totals
 pub total-append : {X : Type 0} (f : X → ℕ) (xs : List X) (y : X) → total f (xs ++ y ∷ []) ≡ total f xs + f y
@@ -143,10 +137,6 @@ filter_none g (x ∷ xs) h = let more = filter_none g xs in grind arith
 pub filter_twice : {X : Type 0} (p q : X → Bool) (xs : List X) → filter q (filter p xs) ≡ filter (λ x. q x && p x) xs
 filter_twice p q [] = refl
 filter_twice p q (x ∷ xs) = let more = filter_twice p q xs in grind arith
-
-pub map_filter : {X Y : Type 0} (f : X → Y) (q : Y → Bool) (xs : List X) → map f (filter (λ x. q (f x)) xs) ≡ filter q (map f xs)
-map_filter f q [] = refl
-map_filter f q (x ∷ xs) = let more = map_filter f q xs in grind arith
 
 pub map_kept : {X Y : Type 0} (f : X → Y) (g : X → X) → ((x : X) → f (g x) ≡ f x) → (xs : List X) → map f (map g xs) ≡ map f xs
 map_kept f g same [] = refl

@@ -8,7 +8,8 @@ use Rattle.dmr_core.specs.Facts.{no_facts}
 use Rattle.dmr_core.specs.Sound.{IsSound, is_grant}
 use Rattle.dmr_core.specs.Words.{is_up}
 use Rattle.dmr_core.proofs.EventsKeepSound.{over}
-use Rattle.dmr_core.proofs.ListLemmas.{replicated, true_false}
+use Rattle.dmr_core.proofs.ListLemmas.{true_false}
+use Rattle.dmr_pdu.proofs.ListLaws.{replicated}
 
 pub nothing_is_sound : (plan : Settings) → IsSound plan no_facts
 nothing_is_sound plan = record {

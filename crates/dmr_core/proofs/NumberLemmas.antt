@@ -17,9 +17,6 @@ not_itself a = grind (arith, nat_tests)
 pub turned_numbers : (a b : ℕ) → (a == b) ≡ (b == a)
 turned_numbers a b = grind (arith, nat_tests)
 
-pub flipped : (a b : ℕ) → (a == b) ≡ false → (b == a) ≡ false
-flipped a b h = grind (arith, nat_tests)
-
 -- a carrier of the plan has a number below 16
 pub row_below : (rows : List CarrierRow) (c : ℕ) → All IsCarrierRow rows → has_number_in rows c ≡ true → c < 16
 row_below [] c each h = cc

@@ -15,7 +15,7 @@ journal_is_legal plan facts (event ∷ earlier) = (refl, journal_is_legal plan f
 abbrev entered : Settings → Event → Facts → Acts → Facts
 entered plan event facts acts = facts_after plan facts (record { actor = 0; event = event; acts = acts } ∷ [])
 
-same_facts : (plan : Settings) (facts : Facts) (journal : List Entry) → IsLegal plan facts journal →
+pub same_facts : (plan : Settings) (facts : Facts) (journal : List Entry) → IsLegal plan facts journal →
     facts_after plan facts journal ≡ facts_after plan facts (journal_of plan facts (events_of journal))
 same_facts plan facts [] h = refl
 same_facts plan facts (entry ∷ earlier) h =

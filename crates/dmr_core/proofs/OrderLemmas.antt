@@ -1,5 +1,6 @@
 -- Registrations, asks, lines and calls are in the order in which they were opened.
-use Rattle.std.proofs.Common.{◌≡◌, ◌<◌, ◌≤◌, ℕ, suc, List, [], ◌∷◌, ◌++◌, Bool, true, false, refl, sym, ◌∙◌, ap, subst, arith, map, filter, length, append_assoc, get_or, ◌≢◌}
+use Rattle.std.proofs.Common.{◌≡◌, ◌<◌, ◌≤◌, ℕ, suc, List, [], ◌∷◌, ◌++◌, Bool, true, false, refl, sym, ◌∙◌, ap, subst, arith, map, filter}
+use Rattle.std.proofs.Common.{length, append_assoc, get_or, ◌≢◌}
 use Rattle.std.specs.Prelude.{fold, if◌then◌else◌, not, ◌==◌, ◌&&◌, flat_map}
 use Rattle.std.specs.List.{list_any}
 use Rattle.std.proofs.lemmas.Bool.Decides.{nat_tests}
@@ -25,15 +26,17 @@ use Rattle.dmr_core.specs.Journal.{IsLegal}
 use Rattle.dmr_core.specs.Sound.{AreOnDistinctSlots, IsSound, engagements_in_ask, engagements_in_line, total}
 use Rattle.dmr_core.specs.May.{MayDo}
 use Rattle.dmr_core.specs.Laws.{EachAct, Throughout}
-use Rattle.dmr_core.specs.Orders.{IsInOrder, asked_by, begun_by, joined_by, last_of_each, lined_by, with_openings, slots_of_calls, sources_of_asks, sources_of_lines}
+use Rattle.dmr_core.specs.Orders.{IsInOrder, asked_by, begun_by, joined_by, last_of_each, lined_by, with_openings, slots_of_calls}
+use Rattle.dmr_core.specs.Orders.{sources_of_asks, sources_of_lines}
 use Rattle.dmr_core.proofs.PlanLemmas.{KnowsPlan}
 use Rattle.dmr_core.proofs.NumberLemmas.{equal_itself}
-use Rattle.dmr_core.proofs.ListLemmas.{any-map, any-push, filter_none, filter_twice, map_filter, map_kept, none_found}
+use Rattle.dmr_core.proofs.ListLemmas.{any-map, any-push, filter_none, filter_twice, map_kept, none_found}
 use Rattle.dmr_core.proofs.CallsAreApart.{same_slots, marked_call, itself as slot_itself}
 use Rattle.dmr_core.proofs.SlotsStaySound.{free_is}
 use Rattle.dmr_core.proofs.ActsAreSafe.{source_counts, throughout}
 use Rattle.dmr_core.proofs.LastOpenerLemmas.{everywhere, no_line}
 use Rattle.dmr_core.proofs.FactsFollowEntries.{facts_after-step}
+use Rattle.dmr_pdu.proofs.ListLaws.{map_filter}
 
 -- the test decides equality
 record Equals {X : Type 0} (same : X → X → Bool) : Type 0 where

@@ -1,5 +1,6 @@
 -- The conditions of parts of rules.
-use Rattle.std.proofs.Common.{◌≡◌, ◌<◌, ◌≤◌, ◌+◌, ℕ, zero, suc, List, [], ◌∷◌, ◌++◌, Bool, true, false, refl, ◌∙◌, ap, subst, arith, map, length, inl, inr, set, get_or}
+use Rattle.std.proofs.Common.{◌≡◌, ◌<◌, ◌≤◌, ◌+◌, ℕ, zero, suc, List, [], ◌∷◌, ◌++◌, Bool, true, false, refl, ◌∙◌, ap, subst, arith, map}
+use Rattle.std.proofs.Common.{length, inl, inr, set, get_or}
 use Rattle.std.specs.Prelude.{fold, Some, cond, ◌&&◌, not, replicate, find, ◌==◌}
 use Rattle.std.specs.List.{list_any}
 use Rattle.std.proofs.lemmas.Bool.{cases_Bool, cases_lt, false_from_ne_true, or_right, eqb-true, and_parts, not-true, or_parts}
@@ -23,7 +24,8 @@ use Rattle.dmr_core.specs.declared.act.Act.TheVariants.{Began, Ended, Queue}
 use Rattle.dmr_core.specs.Facts.{Facts, facts_after_act}
 use Rattle.dmr_core.specs.Words.{is_engaged, is_free, is_registered, is_up, lowest_free, lpcn_of, outbox, has_call_on}
 use Rattle.dmr_core.specs.Rules.{ack, begin, clear, grant, grant_pdu}
-use Rattle.dmr_core.specs.Sound.{IsPayload, IsSound, engagements, engagements_in_ask, engagements_in_call, engagements_in_line, is_grant, party, total}
+use Rattle.dmr_core.specs.Sound.{IsPayload, IsSound, engagements, engagements_in_ask, engagements_in_call, engagements_in_line, is_grant}
+use Rattle.dmr_core.specs.Sound.{party, total}
 use Rattle.dmr_core.specs.May.{AllMayDo, IsGrantOf, MayBegin, MayDo, MayEngage, MayName}
 use Rattle.dmr_core.proofs.PlanLemmas.{KnowsPlan}
 use Rattle.dmr_core.proofs.SlotsStaySound.{IsFree, free_is}

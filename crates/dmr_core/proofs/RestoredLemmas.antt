@@ -1,11 +1,11 @@
 -- A site that starts with radios registered.
-use Rattle.std.proofs.Common.{◌≡◌, ◌≢◌, ◌≤◌, ◌<◌, ℕ, List, [], ◌∷◌, ◌++◌, Bool, true, false, refl, sym, subst, ◌∙◌, ap, arith, length, length-append, append_assoc, eqb-true, get_or}
-use Rattle.std.specs.Prelude.{fold, filter, cond, ◌==◌}
-use Rattle.std.specs.List.{All, Contains}
+use Rattle.std.proofs.Common.{◌≡◌, ◌≢◌, ◌≤◌, ◌<◌, ℕ, List, [], ◌∷◌, ◌++◌, Bool, true, false, refl, sym, subst, ◌∙◌, ap, arith, length}
+use Rattle.std.proofs.Common.{length-append, append_assoc}
+use Rattle.std.specs.Prelude.{fold, filter, cond}
+use Rattle.std.specs.List.{All}
 use Rattle.std.proofs.Math.Seq.{get_or-append_seam}
 use Rattle.std.proofs.lemmas.Bool.{false_from_ne_true}
 use Rattle.std.proofs.lemmas.Bool.Decides.{nat_tests}
-use Rattle.std.proofs.lemmas.List.Folds.{Any-from_list_any}
 use Rattle.std.proofs.lemmas.List.{append-nil, get_or_append_left}
 use Rattle.std.proofs.lemmas.List.Elements.{All-push, All-head, All-tail, All-nil, filter_passes}
 use Rattle.std.proofs.lemmas.List.Kept.{AllPairs-filter}
@@ -16,6 +16,7 @@ use Rattle.dmr_core.specs.Restored.{restored, facts_with}
 use Rattle.dmr_core.specs.Sound.{AreRadiosSound, IsSound}
 use Rattle.dmr_core.proofs.ListLemmas.{length-filter_le}
 use Rattle.dmr_core.proofs.NothingIsSound.{nothing_is_sound}
+use Rattle.dmr_registry.proofs.Laws.{held_contains}
 
 -- with distinct radios registered, the facts are sound
 pub restored_is_sound : (plan : Settings) (radios : List ℕ) → AreDistinct radios → length radios ≤ 4096 → IsSound plan (facts_with radios)
@@ -44,12 +45,6 @@ pub restored-listed : (plan : Settings) (radios : List ℕ) → All (λ radio. l
 restored-listed plan radios =
     let P : ℕ → Type 0 = λ radio. lists_radio plan radio ≡ true in
     all_join-each P [] (filter (lists_radio plan) radios) (All-nil P) (filter_passes (lists_radio plan) radios)
-
--- a radio that is registered is among the radios
-held_contains : (radios : List ℕ) (radio : ℕ) → is_registered_in radios radio ≡ true → Contains radios radio
-held_contains radios radio held =
-    let a = Any-from_list_any (λ r. r == radio) radios held in
-    (a.0, a.2, subst (λ (x : ℕ). get_or radios a.0 x ≡ x) (eqb-true a.1 radio a.4) a.3)
 
 -- a radio that comes later in a list of distinct ones is not registered yet
 fresh : (held : List ℕ) (radio : ℕ) (radios : List ℕ) → AreDistinct (held ++ radio ∷ radios) → is_registered_in held radio ≡ false

@@ -1,5 +1,6 @@
 -- Going round the places: how many are passed before the turn of a place.
-use Rattle.std.proofs.Common.{◌≡◌, ◌≢◌, ◌<◌, ◌≤◌, ◌+◌, ◌-◌, ◌⊎◌, inl, inr, ℕ, zero, suc, List, [], ◌∷◌, Bool, true, false, refl, sym, ◌∙◌, ap, arith, length, filter}
+use Rattle.std.proofs.Common.{◌≡◌, ◌≢◌, ◌<◌, ◌≤◌, ◌+◌, ◌-◌, ◌⊎◌, inl, inr, ℕ, zero, suc, List, [], ◌∷◌, Bool, true, false, refl, sym, ◌∙◌}
+use Rattle.std.proofs.Common.{ap, arith, length, filter}
 use Rattle.std.specs.Prelude.{cond, ◌&&◌}
 use Rattle.std.proofs.lemmas.Bool.{and_parts, and_right, cases_Bool, cases_lt, false_from_ne_true}
 use Rattle.dmr_pdu.specs.declared.slots.Slot.{Slot}
@@ -7,9 +8,10 @@ use Rattle.dmr_calls.specs.declared.call.ActiveCall.{ActiveCall}
 use Rattle.dmr_calls.specs.Calls.{is_slot}
 use Rattle.dmr_pdu.specs.Slots.{place, slot_at}
 use Rattle.dmr_calls.specs.After.{is_group_at, IsNext, NonePass}
-use Rattle.dmr_calls.proofs.Laws.{place-slot_at, same_slot}
+use Rattle.dmr_calls.proofs.Laws.{same_slot}
 use Rattle.dmr_core.specs.Turns.{talkgroup_calls}
 use Rattle.dmr_core.proofs.ListLemmas.{true_false}
+use Rattle.dmr_pdu.proofs.ListLaws.{place-slot_at}
 
 -- 1 if the test passes, else 0
 abbrev pub one : Bool → ℕ

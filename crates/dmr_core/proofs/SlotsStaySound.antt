@@ -1,5 +1,6 @@
 -- Slots and their outboxes, after a PDU was queued or sent.
-use Rattle.std.proofs.Common.{◌≡◌, ◌<◌, ◌≤◌, List, [], ◌∷◌, ◌++◌, Bool, true, false, refl, sym, ◌∙◌, subst, arith, length, ◌⊎◌, inl, inr, ◌≢◌, drop, length-set}
+use Rattle.std.proofs.Common.{◌≡◌, ◌<◌, ◌≤◌, List, [], ◌∷◌, ◌++◌, Bool, true, false, refl, sym, ◌∙◌, subst, arith, length, ◌⊎◌, inl, inr}
+use Rattle.std.proofs.Common.{◌≢◌, drop, length-set}
 use Rattle.std.specs.Prelude.{slice_set, Some}
 use Rattle.std.specs.List.{list_any, list_all}
 use Rattle.std.proofs.lemmas.Bool.{cases_Bool, or_cases, or_parts, and_parts, not-true}

@@ -1,5 +1,6 @@
 -- Late entries name the talkgroup calls in turn.
-use Rattle.std.proofs.Common.{◌≡◌, ◌≢◌, ◌<◌, ◌≤◌, ◌+◌, ◌-◌, ◌*◌, ◌⊎◌, inl, inr, ℕ, List, [], ◌∷◌, Bool, true, false, refl, sym, ◌∙◌, ap, subst, arith}
+use Rattle.std.proofs.Common.{◌≡◌, ◌≢◌, ◌<◌, ◌≤◌, ◌+◌, ◌-◌, ◌*◌, ◌⊎◌, inl, inr, ℕ, List, [], ◌∷◌, Bool, true, false, refl, sym, ◌∙◌, ap}
+use Rattle.std.proofs.Common.{subst, arith}
 use Rattle.std.specs.Prelude.{◌%◌, ◌==◌, fold, Option, Some, None, MatchOption, IfSome, option_map, if◌then◌else◌}
 use Rattle.std.specs.List.{list_all}
 use Rattle.std.specs.Option.{option_and_then, option_map_or}
@@ -24,14 +25,16 @@ use Rattle.dmr_core.specs.declared.act.Act.{Act}
 use Rattle.dmr_core.specs.declared.act.Act.TheVariants.{Began, Ended, Fill}
 use Rattle.dmr_core.specs.declared.entry.Entry.{Entry}
 use Rattle.dmr_core.specs.declared.named.NamedSlot.{NamedSlot}
-use Rattle.dmr_core.specs.Facts.{Facts, facts_after_act, facts_after, fills_by_act, fills_by_event, has_carrier, late_by_act, facts_after_event}
+use Rattle.dmr_core.specs.Facts.{Facts, facts_after_act, facts_after, fills_by_act, fills_by_event, has_carrier, late_by_act}
+use Rattle.dmr_core.specs.Facts.{facts_after_event}
 use Rattle.dmr_core.specs.Late.{last_slot, next_call, slot_named}
 use Rattle.dmr_core.specs.Words.{lpcn_of}
 use Rattle.dmr_core.specs.Rules.{grant_pdu, late_entry}
 use Rattle.dmr_core.specs.Journal.{IsLegal}
 use Rattle.dmr_core.specs.Sound.{IsPayload, IsSound, is_grant, total}
 use Rattle.dmr_core.specs.May.{AllMayDo, MayDo, late_entry_of_fill}
-use Rattle.dmr_core.specs.Turns.{FillsInTurn, HasFillOf, IsFilledWith, IsLateOf, NamesActiveCall, fill_in, fills_in, fills_since, is_steady, is_steady_act, is_steady_event, is_turn, talkgroup_calls}
+use Rattle.dmr_core.specs.Turns.{FillsInTurn, HasFillOf, IsFilledWith, IsLateOf, NamesActiveCall, fill_in, fills_in, fills_since, is_steady}
+use Rattle.dmr_core.specs.Turns.{is_steady_act, is_steady_event, is_turn, talkgroup_calls}
 use Rattle.dmr_core.proofs.PlanLemmas.{KnowsPlan}
 use Rattle.dmr_core.proofs.GrantsAreOwn.{call_is_active}
 use Rattle.dmr_core.proofs.FillsAreLateEntries.{late_is_active}

@@ -1,5 +1,6 @@
 -- The PDUs queued on a slot are those sent there, followed by those that wait.
-use Rattle.std.proofs.Common.{◌≡◌, ◌<◌, ◌+◌, ◌*◌, ◌≢◌, ℕ, List, [], ◌∷◌, ◌++◌, Bool, true, false, refl, sym, ◌∙◌, ap, subst, append_assoc, arith, drop}
+use Rattle.std.proofs.Common.{◌≡◌, ◌<◌, ◌+◌, ◌*◌, ◌≢◌, ℕ, List, [], ◌∷◌, ◌++◌, Bool, true, false, refl, sym, ◌∙◌, ap, subst, append_assoc}
+use Rattle.std.proofs.Common.{arith, drop}
 use Rattle.std.specs.Prelude.{fold, flat_map, if◌then◌else◌, ◌==◌, Some, slice_get, slice_set}
 use Rattle.std.proofs.lemmas.List.{append-nil, get_or-set_same, get_or-set_other}
 use Rattle.std.proofs.lemmas.Bool.{eqb-true, eqb-false}
@@ -21,13 +22,13 @@ use Rattle.dmr_core.specs.Sound.{IsSound}
 use Rattle.dmr_core.specs.May.{AllMayDo, MayDo, MayQueue}
 use Rattle.dmr_core.specs.Waiting.{queued_by, sent_by, is_turn_of_carrier, since_turn}
 use Rattle.dmr_core.proofs.PlanLemmas.{KnowsPlan}
-use Rattle.dmr_core.proofs.NumberLemmas.{flipped}
 use Rattle.dmr_core.proofs.CallsAreApart.{same_slots}
 use Rattle.dmr_core.proofs.SlotsStaySound.{other_place, within_boxes}
 use Rattle.dmr_core.proofs.ActsKeepSound.{sound-done}
 use Rattle.dmr_core.proofs.EventsKeepSound.{emptied_box}
 use Rattle.dmr_core.proofs.ActsAreSafe.{entered}
 use Rattle.dmr_core.proofs.FactsFollowEntries.{facts_after-step}
+use Rattle.dmr_pdu.proofs.ListLaws.{flipped}
 
 -- another slot's outbox changes nothing there
 other_box : (there : Slot) (boxes : List (List Pdu)) (slot : Slot) (v : List Pdu) → there.slot < 2 → slot.slot < 2 →

@@ -1,17 +1,17 @@
 -- The journals of terms in a row, joined.
 use Rattle.std.proofs.Common.{◌≡◌, ℕ, ◌+◌, ◌<◌, ◌≤◌, List, [], ◌∷◌, ◌++◌, length, map, refl, sym, ◌∙◌, ap, subst, arith, slice_index_or}
 use Rattle.std.specs.List.{flat_map}
-use Rattle.std.specs.Prelude.{All, filter, fold, reverse, ◌==◌}
+use Rattle.std.specs.Prelude.{All, filter, reverse, ◌==◌}
 use Rattle.std.proofs.lemmas.List.{append-nil, map-append, reverse-append}
 use Rattle.std.proofs.lemmas.List.Concat.{flat_map-append}
 use Rattle.std.proofs.lemmas.List.Elements.{All-nil, All-cons, All-append, filter-append}
 use Rattle.std.proofs.lemmas.Option.{get_or_from_slice_get}
 use Rattle.dmr_plan.specs.declared.settings.Settings.{Settings}
-use Rattle.dmr_core.specs.declared.act.Act.{Act}
 use Rattle.dmr_core.specs.declared.act.Acts.{Acts}
 use Rattle.dmr_core.specs.declared.entry.Entry.{Entry}
-use Rattle.dmr_core.specs.declared.event.Event.{Event}
-use Rattle.dmr_core.specs.Facts.{Facts, since, same_as_before, up_by_event, registered_by_act, asks_by_event, asks_by_act, lines_by_event, lines_by_act, calls_by_event, calls_by_act, outboxes_by_event, outboxes_by_act, noise_by_event, moving_by_event, fills_by_event, fills_by_act, late_by_event, late_by_act, facts_after}
+use Rattle.dmr_core.specs.Facts.{Facts, same_as_before, up_by_event, registered_by_act, asks_by_event, asks_by_act, lines_by_event}
+use Rattle.dmr_core.specs.Facts.{lines_by_act, calls_by_event, calls_by_act, outboxes_by_event, outboxes_by_act, noise_by_event}
+use Rattle.dmr_core.specs.Facts.{moving_by_event, fills_by_event, fills_by_act, late_by_event, late_by_act, facts_after}
 use Rattle.dmr_core.specs.Journal.{IsLegal}
 use Rattle.dmr_core.specs.Replies.{reply_to}
 use Rattle.dmr_core.specs.Rules.{acts_of}
@@ -22,28 +22,23 @@ use Rattle.dmr_desk.specs.Term.{Start, End}
 use Rattle.dmr_desk.specs.Terms.{start_after, AreTerms, journals_of}
 use Rattle.dmr_desk.specs.Views.{deposit_in, view_of}
 use Rattle.dmr_desk.proofs.TermsJoin.{limit_stays}
+use Rattle.dmr_core.proofs.JournalLaws.{since-append}
 
 -- ---- two journals, newest entry first
-
-since_append : {X : Type 0} (by_event : X → Event → X) (by_act : X → Act → X) (x : X) (later earlier : List Entry) →
-    since by_event by_act x (later ++ earlier) ≡ since by_event by_act (since by_event by_act x earlier) later
-since_append by_event by_act x [] earlier = refl
-since_append {X} by_event by_act x (entry ∷ later) earlier =
-    ap (λ (y : X). fold by_act (by_event y entry.event) entry.acts.list) (since_append by_event by_act x later earlier)
 
 pub facts_append : (plan : Settings) (facts : Facts) (later earlier : List Entry) →
     facts_after plan facts (later ++ earlier) ≡ facts_after plan (facts_after plan facts earlier) later
 facts_append plan facts later earlier = λ i. record {
-  up = since_append (up_by_event plan) same_as_before facts.up later earlier i;
-  registered = since_append same_as_before registered_by_act facts.registered later earlier i;
-  asks = since_append (asks_by_event plan) asks_by_act facts.asks later earlier i;
-  lines = since_append (lines_by_event plan) lines_by_act facts.lines later earlier i;
-  calls = since_append calls_by_event calls_by_act facts.calls later earlier i;
-  outboxes = since_append outboxes_by_event outboxes_by_act facts.outboxes later earlier i;
-  noise = since_append (noise_by_event plan) same_as_before facts.noise later earlier i;
-  moving = since_append moving_by_event same_as_before facts.moving later earlier i;
-  fills = since_append (fills_by_event plan) fills_by_act facts.fills later earlier i;
-  late = since_append (late_by_event plan) late_by_act facts.late later earlier i;
+  up = since-append (up_by_event plan) same_as_before facts.up later earlier i;
+  registered = since-append same_as_before registered_by_act facts.registered later earlier i;
+  asks = since-append (asks_by_event plan) asks_by_act facts.asks later earlier i;
+  lines = since-append (lines_by_event plan) lines_by_act facts.lines later earlier i;
+  calls = since-append calls_by_event calls_by_act facts.calls later earlier i;
+  outboxes = since-append outboxes_by_event outboxes_by_act facts.outboxes later earlier i;
+  noise = since-append (noise_by_event plan) same_as_before facts.noise later earlier i;
+  moving = since-append moving_by_event same_as_before facts.moving later earlier i;
+  fills = since-append (fills_by_event plan) fills_by_act facts.fills later earlier i;
+  late = since-append (late_by_event plan) late_by_act facts.late later earlier i;
 }
 
 legal_append : (plan : Settings) (facts : Facts) (later earlier : List Entry) → IsLegal plan facts earlier →

@@ -8,8 +8,9 @@ mod RecordReadsAsOne
 mod MeaningsAddUp
 mod WorkersMakeATerm
 mod RefusalLemmas
-mod TermsJoin
+pub mod TermsJoin
 mod JournalsJoin
 mod WorkersGoOn
 mod TicksAddUp
 mod DepositLemmas
+pub mod TermLaws

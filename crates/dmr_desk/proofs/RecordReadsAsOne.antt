@@ -1,25 +1,27 @@
 -- The answers of a worker's steps, read in one go.
-use Rattle.std.proofs.Common.{◌≡◌, ◌⊎◌, inl, inr, ℕ, ◌+◌, ◌≤◌, Bool, true, false, cond, List, [], ◌∷◌, ◌++◌, Option, Some, map, refl, sym, ap, ◌∙◌, subst, arith}
+use Rattle.std.proofs.Common.{◌≡◌, ◌⊎◌, inl, inr, ℕ, ◌+◌, ◌≤◌, Bool, true, false, cond, List, [], ◌∷◌, ◌++◌, Option, Some, map, refl, sym}
+use Rattle.std.proofs.Common.{ap, ◌∙◌, subst, arith}
 use Rattle.std.specs.Prelude.{nat_lt}
 use Rattle.std.proofs.lemmas.Option.{same_Some}
 use Rattle.std.proofs.lemmas.List.Sums.{fold-append}
 use Rattle.std.proofs.lemmas.List.Elements.{filter_map-append}
-use Rattle.dmr_wire.specs.Answers.{Answer, Reports, Opened, NotYet, Finished, Came, InputEnded, ReadInterrupted, ReadBlocked, ReadFailed, Took, WriteInterrupted, WriteBlocked, WriteFailed, Again, Silent}
+use Rattle.dmr_wire.specs.Answers.{Answer, Reports, Opened, NotYet, Finished, Came, InputEnded, ReadInterrupted, ReadBlocked, ReadFailed}
+use Rattle.dmr_wire.specs.Answers.{Took, WriteInterrupted, WriteBlocked, WriteFailed, Again, Silent}
 use Rattle.dmr_link.specs.declared.desk.Deposit.{Deposit}
 use Rattle.dmr_link.specs.declared.ended.Ended.{Ended}
 use Rattle.dmr_link.specs.declared.ended.Ended.TheVariants as ended
 use Rattle.dmr_link.specs.declared.stream.Peer.{Peer}
-use Rattle.dmr_link.specs.Happenings.{Happening, Deposited, answers_in, deposits_in, port_answer}
+use Rattle.dmr_link.specs.Happenings.{Happening, answers_in, deposits_in, port_answer}
 use Rattle.dmr_link.specs.Recorded.{Reading, reading_at, of_progress, reading_after_any, reading_after_all, sessions_after_silence}
-use Rattle.dmr_link.specs.Sessions.{Session, new_session, Progress, ReadFaulty, WriteFaulty, progress_at, in_writing, with_how, octets_taken, progress_after_answer, progress_after_answers, is_wire, reads_in, AreOfWire, sessions_after}
+use Rattle.dmr_link.specs.Sessions.{Session, new_session, Progress, ReadFaulty, WriteFaulty, progress_at, in_writing, with_how}
+use Rattle.dmr_link.specs.Sessions.{octets_taken, progress_after_answer, progress_after_answers, is_wire, reads_in, AreOfWire}
+use Rattle.dmr_link.specs.Sessions.{sessions_after}
 use Rattle.dmr_desk.specs.Meaning.{in_record, read_on, IsOneRecord}
-use Rattle.dmr_desk.specs.Work.{Step, Asked, Served, Waited, happened_in, happened_of, with_newest_deposits, past_after, IsAsk, IsWait, MayBeginServe, StopsAt, IsCall, IsOrderly}
+use Rattle.dmr_desk.specs.Work.{Step, Asked, Served, Waited, happened_in, happened_of, with_newest_deposits, past_after, IsAsk, IsWait}
+use Rattle.dmr_desk.specs.Work.{MayBeginServe, StopsAt, IsCall, IsOrderly}
+use Rattle.dmr_desk.proofs.WorkerLemmas.{no_answers}
 
 -- ---- lists
-
-no_answers : (deposits : List Deposit) → answers_in (map Deposited deposits) ≡ []
-no_answers [] = refl
-no_answers (d ∷ deposits) = no_answers deposits
 
 -- ---- without what a desk took
 

@@ -1,5 +1,6 @@
 -- Stations of a plan, and faults.
-use Rattle.std.proofs.Common.{◌≡◌, ℕ, zero, suc, ◌+◌, ◌≤◌, Bool, true, false, cond, List, [], ◌∷◌, Option, Some, None, Result, Ok, Err, length, map, refl, sym, ◌∙◌, ap, arith}
+use Rattle.std.proofs.Common.{◌≡◌, ℕ, zero, suc, ◌+◌, ◌≤◌, Bool, true, false, cond, List, [], ◌∷◌, Option, Some, None, Result, Ok, Err}
+use Rattle.std.proofs.Common.{length, map, refl, sym, ◌∙◌, ap, arith}
 use Rattle.std.specs.Prelude.{IfErr, OnOk}
 use Rattle.std.proofs.lemmas.Bool.{false≢true}
 use Rattle.std.proofs.lemmas.List.{length-map}
@@ -9,7 +10,8 @@ use Rattle.dmr_desk.specs.declared.fault.TermFault.{TermFault}
 use Rattle.dmr_desk.specs.declared.fault.TermFault.TheVariants.{BadStations, Open, NoThread, Audit, Early}
 use Rattle.dmr_desk.specs.Opening.{IsLimit}
 use Rattle.dmr_desk.specs.Term.{Start, End}
-use Rattle.dmr_desk.specs.Refusing.{AreStations, IsEndAt, IsFaultFor, IsTermFault, is_late, carrier_of_peer, numbers_from, carrier_numbers, left_at}
+use Rattle.dmr_desk.specs.Refusing.{AreStations, IsEndAt, IsFaultFor, IsTermFault, is_late, carrier_of_peer, numbers_from, carrier_numbers}
+use Rattle.dmr_desk.specs.Refusing.{left_at}
 use Rattle.dmr_desk.specs.Work.{StationState}
 
 -- ---- the plan's numbers

@@ -1,5 +1,6 @@
 -- The ticker's steps.
-use Rattle.std.proofs.Common.{◌≡◌, ℕ, ◌+◌, inl, inr, List, [], ◌∷◌, ◌++◌, Option, Some, None, refl, sym, ◌∙◌, ap, append_assoc, length, length-append, arith}
+use Rattle.std.proofs.Common.{◌≡◌, ℕ, ◌+◌, inl, inr, List, [], ◌∷◌, ◌++◌, Option, Some, None, refl, sym, ◌∙◌, ap, append_assoc, length}
+use Rattle.std.proofs.Common.{length-append, arith}
 use Rattle.std.proofs.lemmas.List.{append-nil}
 use Rattle.std.proofs.lemmas.List.Elements.{All-nil, All-push}
 use Rattle.dmr_core.specs.declared.act.Acts.{Acts}
@@ -30,7 +31,7 @@ gave_last before None (Some z) n g f = absurd f
 gave_last None (Some y) (Some z) n g f = absurd g
 gave_last (Some x) (Some y) (Some z) n g f = (ap (λ p. p.ticks) f ∙ g, ap (λ p. p.finished) f)
 
-gave_nothing : (p : Option Paced) → Answered p p 0
+pub gave_nothing : (p : Option Paced) → Answered p p 0
 gave_nothing None = tt
 gave_nothing (Some p) = omega arith
 

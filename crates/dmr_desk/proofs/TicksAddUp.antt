@@ -1,5 +1,6 @@
 -- The ticks of terms in a row.
-use Rattle.std.proofs.Common.{◌≡◌, ℕ, ◌+◌, ◌≤◌, inl, inr, List, [], ◌∷◌, ◌++◌, Option, Some, None, sym, ◌∙◌, ap, subst, length, length-append, arith}
+use Rattle.std.proofs.Common.{◌≡◌, ℕ, ◌+◌, ◌≤◌, inl, inr, List, [], ◌∷◌, ◌++◌, Option, Some, None, sym, ◌∙◌, ap, subst, length}
+use Rattle.std.proofs.Common.{length-append, arith}
 use Rattle.std.proofs.lemmas.List.Elements.{All-nil, All-append}
 use Rattle.dmr_core.specs.declared.event.Event.TheVariants.{Tick}
 use Rattle.dmr_link.specs.declared.desk.Deposit.{Deposit}
@@ -11,11 +12,8 @@ use Rattle.dmr_desk.specs.Term.{Start, End, HasTicked}
 use Rattle.dmr_desk.specs.Terms.{start_after, AreTerms}
 use Rattle.dmr_desk.specs.Views.{view_of}
 use Rattle.dmr_desk.proofs.JournalsJoin.{stations_stay, view_append}
-use Rattle.dmr_desk.proofs.WorkersGoOn.{get_within}
-
-gave_none : (p : Option Paced) → Answered p p 0
-gave_none None = tt
-gave_none (Some p) = omega arith
+use Rattle.dmr_desk.proofs.TickerLemmas.{gave_nothing}
+use Rattle.dmr_pdu.proofs.ListLaws.{get_within}
 
 gave_on : (a b c : Option Paced) (n m : ℕ) → Answered a b n → Answered b c m → Answered a c (n + m)
 gave_on a b None n m g h = tt
@@ -62,7 +60,7 @@ pub ticker_works : (start : Start) (ends : List End) → AreTerms start ends →
     HasTickedOn (length ends) start.pacer (start_after start ends).pacer (view_of (length start.stations) (joined_journal ends))
 ticker_works start [] are = record {
   given = 0;
-  gave = gave_none start.pacer;
+  gave = gave_nothing start.pacer;
   ticks = All-nil (λ (d : Deposit). d.event ≡ Tick);
   at_least = omega arith;
   at_most = omega arith;

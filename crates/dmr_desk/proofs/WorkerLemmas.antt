@@ -1,8 +1,10 @@
 -- A worker's steps, one after another.
-use Rattle.std.proofs.Common.{◌≡◌, ℕ, ◌+◌, ◌-◌, inl, inr, cond, List, [], ◌∷◌, ◌++◌, Option, Some, None, refl, sym, ◌∙◌, ap, subst, append_assoc, arith, true, false, Bool, ◌||◌, length, map}
+use Rattle.std.proofs.Common.{◌≡◌, ℕ, ◌+◌, ◌-◌, inl, inr, cond, List, [], ◌∷◌, ◌++◌, Option, Some, None, refl, sym, ◌∙◌, ap, subst}
+use Rattle.std.proofs.Common.{append_assoc, arith, true, false, Bool, ◌||◌, length, map}
 use Rattle.std.specs.Prelude.{nat_lt}
 use Rattle.std.proofs.lemmas.List.{append-nil}
-use Rattle.dmr_wire.specs.Answers.{Answer, Opened, NotYet, Finished, Came, InputEnded, ReadInterrupted, ReadBlocked, ReadFailed, Took, WriteInterrupted, WriteBlocked, WriteFailed, Again, Silent, Reports}
+use Rattle.dmr_wire.specs.Answers.{Answer, Opened, NotYet, Finished, Came, InputEnded, ReadInterrupted, ReadBlocked, ReadFailed, Took}
+use Rattle.dmr_wire.specs.Answers.{WriteInterrupted, WriteBlocked, WriteFailed, Again, Silent, Reports}
 use Rattle.dmr_link.specs.declared.desk.Deposit.{Deposit}
 use Rattle.dmr_link.specs.declared.ended.Ended.{Ended}
 use Rattle.dmr_link.specs.declared.ended.Ended.TheVariants as ended
@@ -13,11 +15,16 @@ use Rattle.dmr_link.specs.Passages.{Passage, Passes}
 use Rattle.dmr_link.specs.Peers.{is_going}
 use Rattle.dmr_link.specs.Questions.{Questioned}
 use Rattle.dmr_link.specs.Recorded.{sessions_after_silence}
-use Rattle.dmr_link.specs.Sessions.{How, Going, InputOver, ReadFaulty, WriteFaulty, CutAfter, how_then, Session, new_session, with_how, with_calls, Progress, progress_at, in_writing, octets_taken, progress_after_answer, progress_after_answers, IsQuiet, IsOver, HasPast, sessions_after, is_kept, is_lost, how_cut, cut_past, EndsAs, Happens, Serves, Cuts}
+use Rattle.dmr_link.specs.Sessions.{How, Going, InputOver, ReadFaulty, WriteFaulty, CutAfter, how_then, Session, new_session, with_how}
+use Rattle.dmr_link.specs.Sessions.{with_calls, Progress, progress_at, in_writing, octets_taken, progress_after_answer}
+use Rattle.dmr_link.specs.Sessions.{progress_after_answers, IsQuiet, IsOver, HasPast, sessions_after, is_kept, is_lost, how_cut, cut_past}
+use Rattle.dmr_link.specs.Sessions.{EndsAs, Happens, Serves, Cuts}
 use Rattle.dmr_link.specs.LinkSteps.{is_live}
 use Rattle.dmr_link.proofs.LinkLaws.{dead_over, over_dead, happens_none, happens_more}
 use Rattle.dmr_desk.specs.declared.ending.Ending.TheVariants as ending
-use Rattle.dmr_desk.specs.Work.{StationState, WorkState, moment, sides_at, Answers, ChangesLink, Step, Asked, Served, Waited, happened_in, happened_of, with_newest_deposits, past_then, past_after, deposits_of_sessions, IsAsk, StopsAt, IsCall, IsOrderly, Steps, WorksUntil, IsAboutToWait as IsWaiting, IsAtWork as IsGoing}
+use Rattle.dmr_desk.specs.Work.{StationState, WorkState, moment, sides_at, Answers, ChangesLink, Step, Asked, Served, Waited, happened_in}
+use Rattle.dmr_desk.specs.Work.{happened_of, with_newest_deposits, past_then, past_after, deposits_of_sessions, IsAsk, StopsAt, IsCall}
+use Rattle.dmr_desk.specs.Work.{IsOrderly, Steps, WorksUntil, IsAboutToWait as IsWaiting, IsAtWork as IsGoing}
 
 going_live : (b kept lost : Bool) → (b ≡ false → ⊥) → (b || kept || lost) ≡ true
 going_live true kept lost h = refl
@@ -100,7 +107,7 @@ went_on m n o ds d w who happens stands view orderly = record {
 passes_none : (before after : Option (List Passage)) → after ≡ before → Passes before [] after
 passes_none before after same = record { follows = λ whole e. (whole, sym same ∙ e, sym (append-nil whole)) }
 
-no_answers : (deposits : List Deposit) → answers_in (map Deposited deposits) ≡ []
+pub no_answers : (deposits : List Deposit) → answers_in (map Deposited deposits) ≡ []
 no_answers [] = refl
 no_answers (d ∷ deposits) = no_answers deposits
 

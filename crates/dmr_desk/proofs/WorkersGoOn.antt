@@ -1,5 +1,6 @@
 -- The steps of a link's worker, term by term.
-use Rattle.std.proofs.Common.{◌≡◌, ℕ, zero, suc, ◌+◌, ◌<◌, List, [], ◌∷◌, ◌++◌, Option, Some, length, map, slice_get, refl, sym, ◌∙◌, ap, subst, append_assoc, arith}
+use Rattle.std.proofs.Common.{◌≡◌, ℕ, ◌+◌, List, [], ◌∷◌, ◌++◌, Option, Some, length, map, slice_get, refl, sym, ◌∙◌, ap, subst}
+use Rattle.std.proofs.Common.{append_assoc, arith}
 use Rattle.std.proofs.lemmas.List.{append-nil}
 use Rattle.std.proofs.lemmas.List.Elements.{filter_map-append}
 use Rattle.std.proofs.lemmas.Option.{same_Some, slice_get_within}
@@ -11,7 +12,8 @@ use Rattle.dmr_link.specs.declared.stream.Peer.{Peer}
 use Rattle.dmr_link.specs.Happenings.{Happening, answers_in, deposits_in, desk_deposit, port_answer}
 use Rattle.dmr_link.specs.Recorded.{reading_at, reading_after_all}
 use Rattle.dmr_link.specs.Sessions.{Session, Sides, Happens}
-use Rattle.dmr_desk.specs.Life.{AreOrderly, HasWorkedOn, WentOn, answers_of_terms, happened_of_terms, joined_answers, joined_journal, past_after_terms, read_terms}
+use Rattle.dmr_desk.specs.Life.{AreOrderly, HasWorkedOn, WentOn, answers_of_terms, happened_of_terms, joined_answers, joined_journal}
+use Rattle.dmr_desk.specs.Life.{past_after_terms, read_terms}
 use Rattle.dmr_desk.specs.Meaning.{IsOneRecord, in_record}
 use Rattle.dmr_desk.specs.Opening.{IsLimit}
 use Rattle.dmr_desk.specs.Refusing.{carrier_of_peer, carrier_numbers}
@@ -21,23 +23,9 @@ use Rattle.dmr_desk.specs.Views.{view_of}
 use Rattle.dmr_desk.specs.Work.{StationState, WorkState, work_state, sides_at, Step, happened_of, deposits_of_sessions, IsOrderly, Steps}
 use Rattle.dmr_desk.proofs.JournalsJoin.{one_journal, stations_stay, view_append}
 use Rattle.dmr_desk.proofs.TermsJoin.{limit_stays}
+use Rattle.dmr_pdu.proofs.ListLaws.{get_within, same_by_place}
 
 -- ---- lists by place
-
-pub get_within : {A : Type 0} (xs : List A) (k : ℕ) → k < length xs → (x : A) × (slice_get xs k ≡ Some x)
-get_within [] k low = absurd (omega arith)
-get_within (x ∷ xs) zero low = (x, refl)
-get_within (x ∷ xs) (suc k) low = get_within xs k (omega arith)
-
-same_by_place : {A B : Type 0} (f : A → B) (xs ys : List A) → length ys ≡ length xs →
-    ((k : ℕ) (x y : A) → slice_get xs k ≡ Some x → slice_get ys k ≡ Some y → f y ≡ f x) → map f ys ≡ map f xs
-same_by_place f [] [] many same = refl
-same_by_place f [] (y ∷ ys) many same = absurd (omega arith)
-same_by_place f (x ∷ xs) [] many same = absurd (omega arith)
-same_by_place f (x ∷ xs) (y ∷ ys) many same =
-    let here : f y ≡ f x = same 0 x y refl refl in
-    let rest : map f ys ≡ map f xs = same_by_place f xs ys (omega arith) (λ k. same (suc k)) in
-    (λ i. here i ∷ rest i)
 
 -- ---- one term more
 

@@ -1,5 +1,6 @@
 -- The work of all workers is a term.
-use Rattle.std.proofs.Common.{◌≡◌, ℕ, zero, suc, ◌+◌, ◌≤◌, ◌<◌, ltb, Bool, true, false, if◌then◌else◌, List, [], ◌∷◌, ◌++◌, Option, Some, None, length, map, slice_get, refl, sym, ◌∙◌, ap, subst, arith, length-append}
+use Rattle.std.proofs.Common.{◌≡◌, ℕ, zero, suc, ◌+◌, ◌≤◌, ◌<◌, ltb, Bool, true, false, if◌then◌else◌, List, [], ◌∷◌, ◌++◌, Option, Some}
+use Rattle.std.proofs.Common.{None, length, map, slice_get, refl, sym, ◌∙◌, ap, subst, arith, length-append}
 use Rattle.std.specs.Prelude.{◌≢◌, Contains}
 use Rattle.std.proofs.lemmas.Bool.Decides.{nat_tests}
 use Rattle.std.proofs.lemmas.List.{length-map}
@@ -24,6 +25,7 @@ use Rattle.dmr_desk.specs.Seats.{SeatState, Opened, HasSeat}
 use Rattle.dmr_desk.specs.Work.{StationState}
 use Rattle.dmr_desk.specs.Term.{HasWorked, HasTicked, Start, End, end_of_term, HasEnded, HasRun, IsTerm}
 use Rattle.dmr_desk.proofs.CrewLemmas.{all_done_length}
+use Rattle.std.proofs.lemmas.Option.{same_Some}
 
 -- ---- each seat's deposits are the view of its actor
 
@@ -52,9 +54,6 @@ get_next : {A : Type 0} (xs : List A) (x y : A) (rest : List A) → slice_get (x
 get_next [] x y rest = refl
 get_next (z ∷ xs) x y rest = let e : suc (length xs) + 1 ≡ suc (length xs + 1) = omega arith in rw e (get_next xs x y rest)
 
-same_some : {A : Type 0} (a b : A) → Some a ≡ Some b → a ≡ b
-same_some a b e = cc
-
 -- ---- each actor's part
 
 worked_as : (s s1 t t1 : StationState) (v v1 : List Deposit) (e e1 : Ending) → s ≡ s1 → t ≡ t1 → v ≡ v1 → e ≡ e1 → HasWorked s t v e →
@@ -76,7 +75,7 @@ ticked_as before after v v1 e e1 c d h =
 -- the deposits of a seat of this actor are the actor's view
 view_is : (views : List (List Deposit)) (seat : SeatState) (actor : ℕ) (view : List Deposit) →
     slice_get views seat.actor ≡ Some seat.deposits → seat.actor ≡ actor → slice_get views actor ≡ Some view → seat.deposits ≡ view
-view_is views seat actor view its own seen = same_some seat.deposits view (sym its ∙ ap (λ (k : ℕ). slice_get views k) own ∙ seen)
+view_is views seat actor view its own seen = same_Some seat.deposits view (sym its ∙ ap (λ (k : ℕ). slice_get views k) own ∙ seen)
 
 carriers_at : {S L : Type 0} (serving : Serving S) (ss : List S) (ws : List (LinkWork S L)) (rest : List Ending) (others : List SeatState)
     (views : List (List Deposit)) (n k : ℕ) (s t : StationState) (e : Ending) (view : List Deposit) → AllDone serving n ss ws
@@ -88,9 +87,9 @@ carriers_at serving [] ws rest others views n k s t e view all vs gs gt ge gv = 
 carriers_at serving (x ∷ ss) [] rest others views n k s t e view all vs gs gt ge gv = absurd all
 carriers_at serving (x ∷ ss) (w ∷ ws) rest others views n zero s t e view all vs gs gt ge gv =
     let number : w.seat.actor ≡ n + zero = let z : n ≡ n + 0 = omega arith in all.0.own ∙ z in
-    worked_as (serving.state x) s (serving.state w.station) t w.seat.deposits view w.ending e (same_some (serving.state x) s gs)
-    (same_some (serving.state w.station) t gt) (view_is views w.seat (n + zero) view vs.0 number gv)
-    (same_some w.ending e ge) all.0.worked
+    worked_as (serving.state x) s (serving.state w.station) t w.seat.deposits view w.ending e (same_Some (serving.state x) s gs)
+    (same_Some (serving.state w.station) t gt) (view_is views w.seat (n + zero) view vs.0 number gv)
+    (same_Some w.ending e ge) all.0.worked
 carriers_at serving (x ∷ ss) (w ∷ ws) rest others views n (suc k) s t e view all vs gs gt ge gv =
     let m : n + suc k ≡ n + 1 + k = omega arith in
     let P : ℕ → Type 0 = λ i. slice_get views i ≡ Some view in
@@ -114,7 +113,7 @@ over_at_limit false entries limit es k e h g = grind (arith, nat_tests)
 -- no ending up to this place is TermOver, if the first is not and none of those after it is
 none_below : (e : Ending) (es : List Ending) (i : ℕ) → e ≢ ending.TermOver → ((j : ℕ) → j < i → slice_get es j ≢ Some ending.TermOver) →
     (j : ℕ) → j < suc i → slice_get (e ∷ es) j ≢ Some ending.TermOver
-none_below e es i first rest zero below g = first (same_some e ending.TermOver g)
+none_below e es i first rest zero below g = first (same_Some e ending.TermOver g)
 none_below e es i first rest (suc j) below g = rest j (omega arith) g
 
 -- the place of the first that ended so
@@ -126,7 +125,7 @@ first_after n k e es other r = let same = r.1 in (suc r.0, omega arith, r.2, non
 
 first_at : (n k : ℕ) (es : List Ending) → first_over n es ≡ Some k → FirstAt n k es
 first_at n k [] h = absurd cc
-first_at n k (ending.TermOver ∷ es) h = let same : n ≡ k = same_some n k h in (0, omega arith, refl, λ j below. absurd (omega arith))
+first_at n k (ending.TermOver ∷ es) h = let same : n ≡ k = same_Some n k h in (0, omega arith, refl, λ j below. absurd (omega arith))
 first_at n k (ending.Finished ∷ es) h = first_after n k ending.Finished es (λ e. cc) (first_at (n + 1) k es h)
 first_at n k (ending.GateShut ∷ es) h = first_after n k ending.GateShut es (λ e. cc) (first_at (n + 1) k es h)
 
@@ -144,7 +143,7 @@ pub shut_at : {S L : Type 0} (serving : Serving S) (n : ℕ) (ss : List S) (ws :
 shut_at serving n ss [] rest all k s gs ge = absurd cc
 shut_at serving n [] (w ∷ ws) rest all k s gs ge = absurd all
 shut_at serving n (x ∷ ss) (w ∷ ws) rest all zero s gs ge =
-    subst serving.shut (same_some w.station s gs) (all.0.shut (same_some w.ending ending.GateShut ge))
+    subst serving.shut (same_Some w.station s gs) (all.0.shut (same_Some w.ending ending.GateShut ge))
 shut_at serving n (x ∷ ss) (w ∷ ws) rest all (suc k) s gs ge = shut_at serving (n + 1) ss ws rest all.1 k s gs ge
 
 -- the last ending
@@ -155,7 +154,7 @@ last_shut ending_of ws first last n count g =
     let P : ℕ → Type 0 = λ k. slice_get (map ending_of ws ++ first ∷ last ∷ []) (k + 1) ≡ Some last in
     let at : slice_get (map ending_of ws ++ first ∷ last ∷ []) (n + 1) ≡ Some last =
     subst P m (get_next (map ending_of ws) first last []) in
-    same_some last ending.GateShut (sym at ∙ g)
+    same_Some last ending.GateShut (sym at ∙ g)
 
 -- ---- the whole
 
@@ -207,14 +206,14 @@ has_ended {S = S} serving pacing its desk ss pacer console all seats report ends
           rw (are.ends_are, ← ne) (get_end (map (λ w. w.ending) ws) all.ticker.ending (d.ending ∷ [])) in
           ticked_as (pacing.paced pacer) (pacing.paced all.ticker.pacer) ts.deposits view all.ticker.ending e
           (view_is views ts (length before) view last.0 (worked.ticker.own ∙ sym m) gv)
-          (same_some all.ticker.ending e (sym got ∙ g)) worked.ticker.ticked;
+          (same_Some all.ticker.ending e (sym got ∙ g)) worked.ticker.ticked;
       console = λ e view g gv.
           let got : slice_get ends (length before + 1) ≡ Some d.ending =
           rw (are.ends_are, ← ne) (get_next (map (λ w. w.ending) ws) all.ticker.ending d.ending []) in
           worked_as (its.state console) (its.state console) (its.state d.station)
           (its.state d.station) d.seat.deposits view d.ending e refl refl
           (view_is views d.seat (length before + 1) view last.1.0 (worked.last.own ∙ ap (λ (k : ℕ). k + 1) (sym m)) gv)
-          (same_some d.ending e (sym got ∙ g)) worked.last.worked;
+          (same_Some d.ending e (sym got ∙ g)) worked.last.worked;
       all_ended =
           ap length are.ends_are ∙ length-append (map (λ w. w.ending) ws) (all.ticker.ending ∷ d.ending ∷ []) ∙ ap (λ (k : ℕ). k + 2) ne;
     }

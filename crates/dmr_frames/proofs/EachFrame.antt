@@ -1,6 +1,7 @@
 -- Frame by frame, and field by field: all that these proofs know of each by itself. A new frame needs one more case in
 -- functions here, and in no other file.
-use Rattle.std.proofs.Common.{◌≡◌, ◌==◌, ℕ, suc, ◌+◌, ◌-◌, ◌*◌, ◌/◌, ◌%◌, ◌<◌, ◌≤◌, nat_lt, cond, Bool, true, false, Option, Some, None, List, [], ◌∷◌, ◌++◌, length, get_or, replicate, refl, sym, ap, ◌∙◌, arith, ⊎_elim, length-append, subst}
+use Rattle.std.proofs.Common.{◌≡◌, ◌==◌, ℕ, suc, ◌+◌, ◌-◌, ◌*◌, ◌/◌, ◌%◌, ◌<◌, ◌≤◌, nat_lt, cond, Bool, true, false, Option, Some, None}
+use Rattle.std.proofs.Common.{List, [], ◌∷◌, ◌++◌, length, get_or, replicate, refl, sym, ap, ◌∙◌, arith, ⊎_elim, length-append, subst}
 use Rattle.std.proofs.lemmas.Bool.{cases_lt}
 use Rattle.std.proofs.lemmas.List.{get_or-append_right, get_or-replicate, get_or_past, length-replicate}
 use Rattle.dmr_frames.specs.declared.frame.FrameIn.{FrameIn}
@@ -19,8 +20,10 @@ use Rattle.dmr_frames.specs.Frames.{IsFrame, frame_octets, spelling, whole_step,
 use Rattle.dmr_frames.specs.Shape.{AreSmall, AreFitting, IsWhole, IsActiveBody, IsClean}
 use Rattle.dmr_frames.specs.Limits.{longest_frame}
 use Rattle.dmr_frames.specs.Stream.{fault_at}
-use Rattle.dmr_frames.proofs.TableLemmas.{none_small, small-cons, small-append, small-zeros, AreFree, free_none, AreAll, among_is, fitting-append, rx_cause, active_cause, free_cause}
-use Rattle.dmr_frames.proofs.BodyLemmas.{IsFrameStep, rx_body, active_body, hello_whole, rx_whole, none_left, active_whole, rx-fits, active-fits, IsRxSpelled, rx_spelled}
+use Rattle.dmr_frames.proofs.TableLemmas.{none_small, small-cons, small-append, small-zeros, AreFree, free_none, AreAll, among_is}
+use Rattle.dmr_frames.proofs.TableLemmas.{fitting-append, rx_cause, active_cause, free_cause}
+use Rattle.dmr_frames.proofs.BodyLemmas.{IsFrameStep, rx_body, active_body, hello_whole, rx_whole, none_left, active_whole, rx-fits}
+use Rattle.dmr_frames.proofs.BodyLemmas.{active-fits, IsRxSpelled, rx_spelled}
 use Rattle.dmr_frames.proofs.SpellingLemmas.{length-burst, burst-le}
 
 -- ---- from the table

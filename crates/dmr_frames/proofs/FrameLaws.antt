@@ -10,6 +10,8 @@ use Rattle.dmr_frames.specs.Versions.{named_or_first, version_octet}
 -- octets have one reading by each table: the frames that they produce one by one, and the rest
 pub use Rattle.dmr_frames.proofs.StreamLemmas.{readings-same}
 pub use Rattle.dmr_frames.proofs.ReadingLemmas.{reads_all}
+-- a frame can follow from no octets, and an open rest is read as itself
+pub use Rattle.dmr_frames.proofs.ReadingLemmas.{open_nothing, reads_open}
 -- a reading continues with one more octet, from the rest before it
 pub use Rattle.dmr_frames.proofs.ReadingLemmas.{reads_on}
 -- the octets of a part of a frame produce nothing and are kept, and those of a frame produce it and leave nothing

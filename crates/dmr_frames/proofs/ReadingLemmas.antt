@@ -1,5 +1,6 @@
 -- How a reading continues, and the results of the octets of a frame, or of a part of one, for an empty rest.
-use Rattle.std.proofs.Common.{◌≡◌, Option, Some, None, is_some, false, ℕ, ◌<◌, List, [], ◌∷◌, ◌++◌, length, take, refl, sym, ap, ◌∙◌, append_assoc, arith, subst, All}
+use Rattle.std.proofs.Common.{◌≡◌, Option, Some, None, is_some, false, ℕ, ◌<◌, List, [], ◌∷◌, ◌++◌, length, take, refl, sym, ap, ◌∙◌}
+use Rattle.std.proofs.Common.{append_assoc, arith, subst, All}
 use Rattle.std.specs.List.{flat_map}
 use Rattle.std.proofs.lemmas.List.{append-nil, flat_map_more}
 use Rattle.std.proofs.lemmas.List.Sums.{fold_push}
@@ -16,7 +17,8 @@ use Rattle.dmr_frames.specs.Frames.{IsFrame, spelling}
 use Rattle.dmr_frames.specs.Rest.{Rest, Open, Faulty, rest_of}
 use Rattle.dmr_frames.specs.Stream.{IsOpen, IsFaulty, Reads, AreFrames, IsStep}
 use Rattle.dmr_frames.specs.Shape.{AreSmall}
-use Rattle.dmr_frames.specs.Reading.{ProduceAtLast, step_at, step_from, rest_after_octet, rest_after, frame_of, frames_from, rest_after_octets}
+use Rattle.dmr_frames.specs.Reading.{ProduceAtLast, step_at, step_from, rest_after_octet, rest_after, frame_of, frames_from}
+use Rattle.dmr_frames.specs.Reading.{rest_after_octets}
 use Rattle.dmr_frames.proofs.TableLemmas.{small-front, small-tail, small-take}
 use Rattle.dmr_frames.proofs.OneFrameLemmas.{step-inside, step-at_last}
 use Rattle.dmr_frames.proofs.EachFrame.{length-spelling}
@@ -134,7 +136,7 @@ open-small v q (f, x, more, is, e) = let P : List ℕ → Type 0 = λ xs. AreSma
 all_small : (xs : List ℕ) → AreSmall xs → All (λ x. x < 256) xs
 all_small xs h = All-from_get_or (λ x. x < 256) xs 0 (λ i lt. h i)
 
-reads_open : (table : FrameTable) (q : List ℕ) → IsOpen (version_of table) q → Reads table q [] (Open table q)
+pub reads_open : (table : FrameTable) (q : List ℕ) → IsOpen (version_of table) q → Reads table q [] (Open table q)
 reads_open table q h = record { tail = q; whole = refl; each = tt; rest_is = (refl, refl, h) }
 
 reads_frame : (table : FrameTable) (f : FrameIn) → IsFrame (version_of table) f →

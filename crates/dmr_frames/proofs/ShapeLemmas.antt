@@ -1,6 +1,7 @@
 -- The octets from which a frame can follow: those of a type octet, its length, and a body that has begun and in which
 -- no octet is a fault.
-use Rattle.std.proofs.Common.{◌≡◌, ℕ, suc, Bool, ◌+◌, ◌-◌, ◌<◌, Option, Some, None, List, [], ◌∷◌, ◌++◌, length, replicate, refl, sym, ap, ◌∙◌, arith, length-append, subst}
+use Rattle.std.proofs.Common.{◌≡◌, ℕ, suc, Bool, ◌+◌, ◌-◌, ◌<◌, Option, Some, None, List, [], ◌∷◌, ◌++◌, length, replicate, refl, sym, ap}
+use Rattle.std.proofs.Common.{◌∙◌, arith, length-append, subst}
 use Rattle.dmr_frames.specs.declared.frame.FrameIn.TheVariants.{Poll}
 use Rattle.dmr_frames.specs.declared.table.FrameKind.{FrameKind}
 use Rattle.dmr_frames.specs.declared.version.Version.{Version}

@@ -1,5 +1,6 @@
 -- The spellings of the frames to a carrier differ, and the length octets.
-use Rattle.std.proofs.Common.{◌≡◌, ℕ, ◌+◌, ◌≤◌, Bool, Option, Some, None, List, [], ◌∷◌, ◌++◌, length, get_or, take, drop, refl, sym, ap, ◌∙◌, arith}
+use Rattle.std.proofs.Common.{◌≡◌, ℕ, ◌+◌, ◌≤◌, Bool, Option, Some, None, List, [], ◌∷◌, ◌++◌, length, get_or, take, drop, refl, sym, ap}
+use Rattle.std.proofs.Common.{◌∙◌, arith}
 use Rattle.std.proofs.lemmas.List.{take_at, drop_at}
 use Rattle.dmr_bits.specs.Words.{word_octets, word_of}
 use Rattle.dmr_bits.proofs.Laws.{word_octets-octets, word_of-word_octets}

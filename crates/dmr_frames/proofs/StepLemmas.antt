@@ -1,5 +1,6 @@
 -- Each step is what one more octet makes of an open rest.
-use Rattle.std.proofs.Common.{◌≡◌, ◌==◌, ℕ, ◌+◌, ◌<◌, not, cond, nat_lt, Bool, true, false, Option, Some, None, is_some, List, [], ◌∷◌, ◌++◌, length, get_or, refl, sym, ap, ◌∙◌, arith, length-append, append_assoc, subst}
+use Rattle.std.proofs.Common.{◌≡◌, ◌==◌, ℕ, ◌+◌, ◌<◌, not, cond, nat_lt, Bool, true, false, Option, Some, None, is_some, List, [], ◌∷◌}
+use Rattle.std.proofs.Common.{◌++◌, length, get_or, refl, sym, ap, ◌∙◌, arith, length-append, append_assoc, subst}
 use Rattle.std.proofs.Math.Seq.{get_or-append_seam}
 use Rattle.std.proofs.lemmas.Bool.{eqb-true, eq-eqb, ltb-false, ltb-true}
 use Rattle.dmr_frames.specs.declared.frame.Cause.{Cause}
@@ -14,11 +15,12 @@ use Rattle.dmr_frames.specs.Stream.{Begins, IsOpen, IsStep}
 use Rattle.dmr_frames.specs.Frames.{whole_step}
 use Rattle.dmr_frames.specs.Reading.{length_step, unless_fault, body_step, kind_step, step_at}
 use Rattle.dmr_frames.specs.Shape.{AreFitting, IsBegun, IsWhole, IsShapeOf, IsShape}
-use Rattle.dmr_frames.proofs.TableLemmas.{none_small, small-cons, small-append, whole-last, some_same, none_some, fitting-one}
+use Rattle.dmr_frames.proofs.TableLemmas.{none_small, small-cons, small-append, whole-last, fitting-one}
 use Rattle.dmr_frames.proofs.BodyLemmas.{IsFrameStep}
 use Rattle.dmr_frames.proofs.EachFrame.{IsCarriersIn, kind_found, cause_at, whole_frame}
 use Rattle.dmr_frames.proofs.OneSpelling.{Follows, follows}
 use Rattle.dmr_frames.proofs.ShapeLemmas.{open-from_shape, shape-from_open}
+use Rattle.std.proofs.lemmas.Option.{same_Some, none-some}
 
 no_truth : false ≡ true → ⊥
 no_truth e = cc
@@ -27,7 +29,7 @@ no_truth e = cc
 same_kind : (v : Version) (octet : ℕ) (k : FrameKind) (rest : List ℕ) → carrier_kind v octet ≡ Some k → Follows v octet rest →
     (body : List ℕ) × IsWhole (has_numbers v) k body × (rest ≡ body_length (has_numbers v) k ∷ body)
 same_kind v octet k rest known h =
-    let same : h.which ≡ k = some_same h.which k (sym h.known ∙ known) in
+    let same : h.which ≡ k = same_Some h.which k (sym h.known ∙ known) in
     let P : FrameKind → Type 0 = λ i. IsWhole (has_numbers v) i h.body × (rest ≡ body_length (has_numbers v) i ∷ h.body) in
     let is : IsWhole (has_numbers v) k h.body × (rest ≡ body_length (has_numbers v) k ∷ h.body) = subst P same (h.whole, h.rest_is) in
     (h.body, is.0, is.1)
@@ -41,7 +43,7 @@ open_shape v octet k rest known h = let P : Option FrameKind → Type 0 = λ m. 
 
 type_sound : (v : Version) (x : ℕ) (m : Option FrameKind) → carrier_kind v x ≡ m → IsStep v [] x (cond (is_some m) Need (Fault UnknownType))
 type_sound v x None e =
-    (λ (f, more, is, spelled). (let h : Follows v x more = follows v x more f is spelled in none_some h.which (sym e ∙ h.known)), refl)
+    (λ (f, more, is, spelled). (let h : Follows v x more = follows v x more f is spelled in none-some h.which (sym e ∙ h.known)), refl)
 type_sound v x (Some k) e = open_shape v x k [] e tt
 
 -- ---- at a length octet and in a body
@@ -97,7 +99,7 @@ not_octet v octet k n body x cause known fault (f, more, is, e) =
     let Q : ℕ → Type 0 = λ y. body_fault (has_numbers v) k (length body) y ≡ None in
     let none : body_fault (has_numbers v) k (length body) x ≡ None =
     subst Q at (fits (length body) (omega (arith, length-append body (x ∷ more)))) in
-    none_some cause (sym none ∙ fault)
+    none-some cause (sym none ∙ fault)
 
 more_cases : (v : Version) (octet : ℕ) (k : FrameKind) (n : ℕ) (body : List ℕ) (x : ℕ) (a : Bool) → carrier_kind v octet ≡ Some k →
     n ≡ body_length (has_numbers v) k → IsBegun (has_numbers v) k body → x < 256 →

@@ -1,5 +1,7 @@
 -- The table of frames: the frame of each type octet, and the octets of a body that are faults.
-use Rattle.std.proofs.Common.{◌≡◌, ◌==◌, ℕ, zero, suc, ◌+◌, ◌-◌, ◌%◌, ◌<◌, ◌≤◌, nat_lt, cond, Bool, true, false, Some, None, List, [], ◌∷◌, ◌++◌, length, take, drop, get_or, replicate, refl, sym, ap, ◌∙◌, arith, ⊎_elim, length-append, take-append-drop, subst}
+use Rattle.std.proofs.Common.{◌≡◌, ◌==◌, ℕ, zero, suc, ◌+◌, ◌-◌, ◌%◌, ◌<◌, ◌≤◌, nat_lt, cond, Bool, true, false, Some, None, List, [], ◌∷◌}
+use Rattle.std.proofs.Common.{◌++◌, length, take, drop, get_or, replicate, refl, sym, ap, ◌∙◌, arith, ⊎_elim, length-append}
+use Rattle.std.proofs.Common.{take-append-drop, subst}
 use Rattle.std.proofs.Math.Seq.{get_or-append_seam}
 use Rattle.std.proofs.lemmas.Bool.{cases_lt, eqb-true, le-ltb}
 use Rattle.std.proofs.lemmas.List.{get_or_append_left}
@@ -11,9 +13,11 @@ use Rattle.dmr_frames.specs.declared.table.FrameKind.{FrameKind}
 use Rattle.dmr_frames.specs.declared.table.FrameKind.TheVariants as kind
 use Rattle.dmr_frames.specs.declared.version.Version.{Version}
 use Rattle.dmr_frames.specs.Versions.{is_since}
-use Rattle.dmr_frames.specs.Table.{frame_row, carrier_kind, carrier_kinds, kind_among, field_length, body_length, field_fault, fields_fault, body_fault}
+use Rattle.dmr_frames.specs.Table.{frame_row, carrier_kind, carrier_kinds, kind_among, field_length, body_length, field_fault, fields_fault}
+use Rattle.dmr_frames.specs.Table.{body_fault}
 use Rattle.dmr_frames.specs.Stream.{fault_at}
 use Rattle.dmr_frames.specs.Shape.{AreSmall, AreFitting, IsBegun, IsWhole}
+use Rattle.std.proofs.lemmas.Option.{same_Some, none-some}
 
 pub none_small : AreSmall []
 none_small = λ k. omega arith
@@ -43,12 +47,6 @@ small-zeros (suc n) = small-cons 0 (replicate n 0) (omega arith) (small-zeros n)
 
 -- ---- the frame that has a type octet
 
-pub some_same : {A : Type 0} (a b : A) → Some a ≡ Some b → a ≡ b
-some_same a b e = cc
-
-pub none_some : {A : Type 0} (a : A) → None ≡ Some a → ⊥
-none_some a e = cc
-
 -- each of these frames has the property
 abbrev pub AreAll : (FrameKind → Type 0) → List FrameKind → Type 0
 AreAll P [] = Unit {0}
@@ -57,7 +55,7 @@ AreAll P (k ∷ kinds) = P k × AreAll P kinds
 -- the frame of a type octet, of these: it has that octet, is one of these, and exists in the version
 pub among_is : (P : FrameKind → Type 0) (v : Version) (kinds : List FrameKind) (x : ℕ) (k : FrameKind) → AreAll P kinds →
     kind_among v kinds x ≡ Some k → (x ≡ (frame_row k).octet) × P k × (is_since (frame_row k).since v ≡ true)
-among_is P v [] x k all e = absurd (none_some k e)
+among_is P v [] x k all e = absurd (none-some k e)
 among_is P v (j ∷ kinds) x k all e =
     at (x == (frame_row j).octet) (is_since (frame_row j).since v) (λ d. among_is P v kinds x k all.1 d) refl refl e
   where
@@ -67,23 +65,23 @@ among_is P v (j ∷ kinds) x k all e =
         (is_since (frame_row k).since v ≡ true)
     at true true later ea eb e =
         let Q : FrameKind → Type 0 = λ i. (x ≡ (frame_row i).octet) × P i × (is_since (frame_row i).since v ≡ true) in
-        subst Q (some_same j k e) (eqb-true x (frame_row j).octet ea, all.0, eb)
-    at true false later ea eb e = absurd (none_some k e)
+        subst Q (same_Some j k e) (eqb-true x (frame_row j).octet ea, all.0, eb)
+    at true false later ea eb e = absurd (none-some k e)
     at false b later ea eb e = later e
 
 -- a type octet belongs to one frame, in whichever version
 among_same : (v w : Version) (kinds : List FrameKind) (x : ℕ) (i j : FrameKind) → kind_among v kinds x ≡ Some i →
     kind_among w kinds x ≡ Some j → i ≡ j
-among_same v w [] x i j d e = absurd (none_some i d)
+among_same v w [] x i j d e = absurd (none-some i d)
 among_same v w (k ∷ kinds) x i j d e = at (x == (frame_row k).octet) (is_since (frame_row k).since v) (is_since (frame_row k).since w)
     (λ d e. among_same v w kinds x i j d e) d e
   where
     at : (a b c : Bool) → (kind_among v kinds x ≡ Some i → kind_among w kinds x ≡ Some j → i ≡ j) →
         cond a (cond b (Some k) None) (kind_among v kinds x) ≡ Some i → cond a (cond c (Some k) None) (kind_among w kinds x) ≡ Some j →
         i ≡ j
-    at true true true later d e = sym (some_same k i d) ∙ some_same k j e
-    at true true false later d e = absurd (none_some j e)
-    at true false c later d e = absurd (none_some i d)
+    at true true true later d e = sym (same_Some k i d) ∙ same_Some k j e
+    at true true false later d e = absurd (none-some j e)
+    at true false c later d e = absurd (none-some i d)
     at false b c later d e = later d e
 
 pub kind_same : (v w : Version) (x : ℕ) (i j : FrameKind) → carrier_kind v x ≡ Some i → carrier_kind w x ≡ Some j → i ≡ j
@@ -158,7 +156,7 @@ slot_cause : (x : ℕ) (cause : Cause) → cond (nat_lt x 2) None (Some BadSlot)
 slot_cause x cause e = at (nat_lt x 2) e
   where
     at : (b : Bool) → cond b None (Some BadSlot) ≡ Some cause → Some BadSlot ≡ Some cause
-    at true e = absurd (none_some cause e)
+    at true e = absurd (none-some cause e)
     at false e = e
 
 word_cause : (b : Bool) (i x : ℕ) (cause : Cause) → fields_fault b (field.Word ∷ []) i x ≡ Some cause → (i ≡ 24) ×
@@ -167,9 +165,9 @@ word_cause b i x cause e = at (nat_lt i 25) (i == 24) (x % 16 == 0) refl e
   where
     at : (a b c : Bool) → (i == 24) ≡ b → cond a (cond b (cond c None (Some BadPad)) None) None ≡ Some cause → (i ≡ 24) ×
         (Some BadPad ≡ Some cause)
-    at false b c eb e = absurd (none_some cause e)
-    at true false c eb e = absurd (none_some cause e)
-    at true true true eb e = absurd (none_some cause e)
+    at false b c eb e = absurd (none-some cause e)
+    at true false c eb e = absurd (none-some cause e)
+    at true true true eb e = absurd (none-some cause e)
     at true true false eb e = (eqb-true i 24 eb, e)
 
 pub rx_cause : (b : Bool) (place x : ℕ) (cause : Cause) → body_fault b kind.Rx place x ≡ Some cause →
@@ -177,7 +175,7 @@ pub rx_cause : (b : Bool) (place x : ℕ) (cause : Cause) → body_fault b kind.
 rx_cause false zero x cause e = slot_cause x cause e
 rx_cause false (suc i) x cause e = let is : (i ≡ 24) × (Some BadPad ≡ Some cause) =
     word_cause false i x cause (sym (plain_word i x) ∙ e) in ap (λ (n : ℕ). fault_at false (suc (suc (suc n)))) is.0 ∙ is.1
-rx_cause true zero x cause e = absurd (none_some cause e)
+rx_cause true zero x cause e = absurd (none-some cause e)
 rx_cause true (suc zero) x cause e = slot_cause x cause e
 rx_cause true (suc (suc i)) x cause e = let is : (i ≡ 24) × (Some BadPad ≡ Some cause) =
     word_cause true i x cause (sym (numbered_word i x) ∙ e) in ap (λ (n : ℕ). fault_at true (suc (suc (suc (suc n))))) is.0 ∙ is.1
@@ -185,8 +183,8 @@ rx_cause true (suc (suc i)) x cause e = let is : (i ≡ 24) × (Some BadPad ≡ 
 pub active_cause : (b : Bool) (place x : ℕ) (cause : Cause) → body_fault b kind.Active place x ≡ Some cause →
     fault_at b (suc (suc place)) ≡ Some cause
 active_cause b zero x cause e = slot_cause x cause e
-active_cause b (suc i) x cause e = absurd (none_some cause (sym (after_field b field.Slot [] (suc i) i x (omega arith)) ∙ e))
+active_cause b (suc i) x cause e = absurd (none-some cause (sym (after_field b field.Slot [] (suc i) i x (omega arith)) ∙ e))
 
 pub free_cause : (b : Bool) (k : FrameKind) (place x : ℕ) (cause : Cause) → AreFree (frame_row k).body →
     body_fault b k place x ≡ Some cause → fault_at b (suc (suc place)) ≡ Some cause
-free_cause b k place x cause free e = absurd (none_some cause (sym (free_none b (frame_row k).body place x free) ∙ e))
+free_cause b k place x cause free e = absurd (none-some cause (sym (free_none b (frame_row k).body place x free) ∙ e))

@@ -1,5 +1,6 @@
 -- A whole frame at the front of octets.
-use Rattle.std.proofs.Common.{◌≡◌, ℕ, suc, ◌+◌, ◌-◌, ◌≤◌, Some, List, [], ◌∷◌, length, take, drop, get_or, sym, ap, ◌∙◌, arith, length-take-le, subst}
+use Rattle.std.proofs.Common.{◌≡◌, ℕ, suc, ◌+◌, ◌-◌, ◌≤◌, Some, List, [], ◌∷◌, length, take, drop, get_or, sym, ap, ◌∙◌, arith}
+use Rattle.std.proofs.Common.{length-take-le, subst}
 use Rattle.std.proofs.Math.Seq.{take-length}
 use Rattle.dmr_frames.specs.declared.frame.FrameIn.{FrameIn}
 use Rattle.dmr_frames.specs.declared.cutter.Step.TheVariants.{Frame}

@@ -1,5 +1,6 @@
 -- Calls are counted once, and their ages fit the ticks at which they began.
-use Rattle.std.proofs.Common.{◌≡◌, ◌+◌, ℕ, List, [], ◌∷◌, Bool, true, false, cond, length, map, refl, arith, sym, subst, add-zero, length-append}
+use Rattle.std.proofs.Common.{◌≡◌, ◌+◌, ℕ, List, [], ◌∷◌, Bool, true, false, cond, length, map, refl, arith, sym, subst, add-zero}
+use Rattle.std.proofs.Common.{length-append}
 use Rattle.std.specs.Prelude.{not, filter, flat_map, fold}
 use Rattle.std.proofs.lemmas.List.{length-map}
 use Rattle.std.proofs.lemmas.List.Elements.{All-filter, All-map, All-push}
@@ -18,7 +19,8 @@ use Rattle.dmr_keeper.specs.declared.calls.OpenCall.{OpenCall}
 use Rattle.dmr_keeper.specs.declared.lines.OpenLine.{OpenLine}
 use Rattle.dmr_keeper.specs.Lines.{lines_after_entry}
 use Rattle.dmr_keeper.specs.Ticks.{tick_at, ticks_in}
-use Rattle.dmr_keeper.specs.Calls.{begun_at, begun_in, ended_at, ended_by_act, ended_by_acts, ended_by_event, ended_in, ended_in_entry, is_of, is_on, one_tick_on, open_after, open_after_entry, open_by_act, open_by_event, with_activity_on}
+use Rattle.dmr_keeper.specs.Calls.{begun_at, begun_in, ended_at, ended_by_act, ended_by_acts, ended_by_event, ended_in, ended_in_entry}
+use Rattle.dmr_keeper.specs.Calls.{is_of, is_on, one_tick_on, open_after, open_after_entry, open_by_act, open_by_event, with_activity_on}
 use Rattle.dmr_keeper.specs.Laws.{HasAge, HaveAges}
 use Rattle.dmr_keeper.proofs.LoopLemmas.{ticks-cons}
 

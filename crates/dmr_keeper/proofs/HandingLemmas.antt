@@ -6,7 +6,7 @@ use Rattle.dmr_keeper.specs.Kept.{Kept, Keeps}
 use Rattle.dmr_keeper.specs.declared.keeper.KeepFault.{KeepFault}
 use Rattle.dmr_keeper.specs.Handing.{AreHandedOver, IsRefused}
 use Rattle.dmr_keeper.proofs.KeepsLaws.{keeps_nothing, keeps_more}
-use Rattle.dmr_keeper.proofs.LoopLemmas.{rest_is}
+use Rattle.dmr_pdu.proofs.ListLaws.{rest_is}
 
 -- the oldest is the one that is read, and the others are those that stay
 pub oldest_of : (old new : List TimedRecords) (term : TimedRecords) → 0 < length old → term ≡ get_or old 0 term → new ≡ remove old 0 →

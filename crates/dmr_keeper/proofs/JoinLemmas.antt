@@ -1,5 +1,6 @@
 -- The records of two journals, one after the other.
-use Rattle.std.proofs.Common.{◌≡◌, ◌+◌, ◌≤◌, ℕ, List, [], ◌∷◌, ◌++◌, Bool, cond, length, max, refl, arith, ap, sym, ◌∙◌, append_assoc, add-zero, length-append}
+use Rattle.std.proofs.Common.{◌≡◌, ◌+◌, ◌≤◌, ℕ, List, [], ◌∷◌, ◌++◌, Bool, cond, length, max, refl, arith, ap, sym, ◌∙◌, append_assoc}
+use Rattle.std.proofs.Common.{add-zero, length-append}
 use Rattle.std.specs.List.{list_any}
 use Rattle.std.proofs.lemmas.List.Sums.{sum_by-append, fold-append}
 use Rattle.dmr_plan.specs.declared.settings.Settings.{Settings}
@@ -15,7 +16,8 @@ use Rattle.dmr_keeper.specs.Lines.{lines_after, lines_after_entry, most_waiting}
 use Rattle.dmr_keeper.specs.Registered.{registered_after_entry}
 use Rattle.dmr_keeper.specs.Carried.{Carry, carried_after}
 use Rattle.dmr_keeper.specs.Carriers.{counts_of_both, counts_of_carrier, is_of_and}
-use Rattle.dmr_keeper.specs.Counts.{counts_joined, entries_with, events_that, is_active, is_begun, is_command, is_granting, is_heard, is_joined, is_late_entry, is_noise, is_poll, is_refusing, is_request}
+use Rattle.dmr_keeper.specs.Counts.{counts_joined, entries_with, events_that, is_active, is_begun, is_command, is_granting, is_heard}
+use Rattle.dmr_keeper.specs.Counts.{is_joined, is_late_entry, is_noise, is_poll, is_refusing, is_request}
 use Rattle.dmr_keeper.specs.Records.{counts_in, ended_calls}
 use Rattle.dmr_keeper.proofs.LoopLemmas.{ticks-cons}
 

@@ -1,15 +1,12 @@
 -- The step of a loop over a journal: the entry that is read is the first of those that are left.
-use Rattle.std.proofs.Common.{◌≡◌, ◌+◌, ◌<◌, ◌≤◌, ℕ, List, [], ◌∷◌, ◌++◌, Bool, true, false, Option, Some, None, cond, drop, length, get_or, map, arith, refl, ap, sym, ◌∙◌, append_assoc}
+use Rattle.std.proofs.Common.{◌≡◌, ◌+◌, ◌<◌, ◌≤◌, ℕ, List, [], ◌∷◌, ◌++◌, Bool, true, false, Option, Some, None, cond, drop, length, get_or}
+use Rattle.std.proofs.Common.{map, arith, refl, ap, sym, ◌∙◌, append_assoc}
 use Rattle.std.specs.Prelude.{count_by, filter, filter_map}
 use Rattle.std.specs.List.{cons_option}
-use Rattle.std.proofs.lemmas.List.{drop_more}
 use Rattle.std.proofs.lemmas.List.Sums.{sum_by-cons}
 use Rattle.dmr_core.specs.declared.entry.Entry.{Entry}
 use Rattle.dmr_keeper.specs.Ticks.{is_tick, tick_at, ticks_in, told_along}
-
--- the elements that are left begin with the one that is read
-pub rest_is : {X : Type 0} (xs : List X) (i : ℕ) (x : X) → i < length xs → x ≡ get_or xs i x → drop i xs ≡ x ∷ drop (i + 1) xs
-rest_is xs i x within read = drop_more xs i x within ∙ ap (λ y. y ∷ drop (i + 1) xs) (sym read)
+use Rattle.dmr_pdu.proofs.ListLaws.{rest_is}
 
 -- the ticks of a journal are that of its first entry and those of the others
 pub ticks-cons : (ticks : ℕ) (entry : Entry) (later : List Entry) → tick_at ticks entry.event + ticks_in later ≡ ticks + ticks_in

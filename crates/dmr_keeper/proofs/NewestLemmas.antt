@@ -1,5 +1,6 @@
 -- Records for which there is room: those of the newest 1,000 terms.
-use Rattle.std.proofs.Common.{◌≡◌, ℕ, zero, suc, ◌+◌, ◌-◌, ◌<◌, ◌≤◌, List, [], ◌∷◌, ◌++◌, length, drop, length-append, length-drop, drop-drop, append_assoc, refl, sym, subst, ◌∙◌, ap, arith}
+use Rattle.std.proofs.Common.{◌≡◌, ℕ, zero, suc, ◌+◌, ◌-◌, ◌<◌, ◌≤◌, List, [], ◌∷◌, ◌++◌, length, drop, length-append, length-drop}
+use Rattle.std.proofs.Common.{drop-drop, append_assoc, refl, sym, subst, ◌∙◌, ap, arith}
 use Rattle.dmr_keeper.specs.declared.time.TimedRecords.{TimedRecords}
 use Rattle.dmr_keeper.specs.Handing.{newest}
 

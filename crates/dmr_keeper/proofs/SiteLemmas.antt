@@ -1,6 +1,6 @@
 -- What is carried is the site's.
 use Rattle.std.proofs.Common.{◌≡◌, ℕ, List, [], ◌∷◌, ◌++◌, Bool, true, false, length, map, refl, arith, ap, sym, ◌∙◌, reverse}
-use Rattle.std.specs.Prelude.{◌==◌, if◌then◌else◌, not, filter, fold, cond}
+use Rattle.std.specs.Prelude.{◌==◌, if◌then◌else◌, not, fold}
 use Rattle.std.proofs.lemmas.List.{length-map, map-append, reverse-append}
 use Rattle.dmr_plan.specs.declared.settings.Settings.{Settings}
 use Rattle.dmr_calls.specs.declared.line.Line.{Line}
@@ -11,7 +11,8 @@ use Rattle.dmr_core.specs.declared.event.Event.TheVariants.{Up, Lost, Active, Ti
 use Rattle.dmr_core.specs.declared.act.Act.{Act}
 use Rattle.dmr_core.specs.declared.act.Act.TheVariants.{Began, Ended, Lined, Unlined}
 use Rattle.dmr_core.specs.declared.entry.Entry.{Entry}
-use Rattle.dmr_core.specs.Facts.{Facts, calls_by_act, calls_by_event, facts_after, lines_by_act, lines_by_event, registered_by_act, same_as_before, since}
+use Rattle.dmr_core.specs.Facts.{Facts, calls_by_act, calls_by_event, facts_after, lines_by_act, lines_by_event, registered_by_act}
+use Rattle.dmr_core.specs.Facts.{same_as_before, since}
 use Rattle.dmr_core.specs.Sound.{IsSound}
 use Rattle.dmr_keeper.specs.declared.calls.OpenCall.{OpenCall}
 use Rattle.dmr_keeper.specs.declared.lines.OpenLine.{OpenLine}
@@ -20,18 +21,14 @@ use Rattle.dmr_keeper.specs.Ticks.{tick_at}
 use Rattle.dmr_keeper.specs.Calls.{one_tick_on, open_after, open_after_entry, open_by_act, open_by_event, with_activity_on}
 use Rattle.dmr_keeper.specs.Carried.{Carry, carried_after}
 use Rattle.dmr_keeper.specs.Laws.{IsOfFacts, IsWithinLimits, lines_in, active_in}
+use Rattle.dmr_pdu.proofs.ListLaws.{map_filter}
+use Rattle.dmr_core.proofs.JournalLaws.{since-append}
 
 -- a fact, oldest entry first
 
 -- the fact after an entry
 abbrev after_one : {X : Type 0} → (X → Event → X) → (X → Act → X) → X → Entry → X
 after_one by_event by_act x entry = fold by_act (by_event x entry.event) entry.acts.list
-
-since-append : {X : Type 0} (by_event : X → Event → X) (by_act : X → Act → X) (x : X) (later earlier : List Entry) →
-    since by_event by_act x (later ++ earlier) ≡ since by_event by_act (since by_event by_act x earlier) later
-since-append by_event by_act x [] earlier = refl
-since-append {X} by_event by_act x (entry ∷ later) earlier =
-    ap (λ (y : X). after_one by_event by_act y entry) (since-append by_event by_act x later earlier)
 
 -- a journal, newest first, ends in its oldest entry
 newest_first : (entry : Entry) (later : List Entry) → reverse (entry ∷ later) ≡ reverse later ++ entry ∷ []
@@ -50,23 +47,14 @@ since-reversed by_event by_act x (entry ∷ later) =
 abbrev active_of : OpenCall → ActiveCall
 active_of o = o.active
 
-map-filter : {X Y : Type 0} (f : X → Y) (q : Y → Bool) (xs : List X) → map f (filter (λ x. q (f x)) xs) ≡ filter q (map f xs)
-map-filter f q [] = refl
-map-filter {X} {Y} f q (x ∷ xs) = either (q (f x)) (map-filter f q xs)
-  where
-    either : (b : Bool) → map f (filter (λ x. q (f x)) xs) ≡ filter q (map f xs) →
-        map f (cond b (x ∷ filter (λ x. q (f x)) xs) (filter (λ x. q (f x)) xs)) ≡ cond b (f x ∷ filter q (map f xs)) (filter q (map f xs))
-    either true more = ap (λ (ys : List Y). f x ∷ ys) more
-    either false more = more
-
 map-both : {X Y : Type 0} (f : X → Y) (g : X → X) (h : Y → Y) → ((x : X) → f (g x) ≡ h (f x)) → (xs : List X) →
     map f (map g xs) ≡ map h (map f xs)
 map-both f g h same [] = refl
 map-both f g h same (x ∷ xs) = rw (same x, map-both f g h same xs) refl
 
 active-event : (calls : List OpenCall) (event : Event) → active_in (open_by_event calls event) ≡ calls_by_event (active_in calls) event
-active-event calls (Up carrier) = map-filter active_of (λ s. not (s.call.slot.carrier == carrier)) calls
-active-event calls (Lost carrier) = map-filter active_of (λ s. not (s.call.slot.carrier == carrier)) calls
+active-event calls (Up carrier) = map_filter active_of (λ s. not (s.call.slot.carrier == carrier)) calls
+active-event calls (Lost carrier) = map_filter active_of (λ s. not (s.call.slot.carrier == carrier)) calls
 active-event calls (Active slot) = map-both active_of (with_activity_on slot) (with_activity slot) (λ o. refl) calls
 active-event calls Tick = map-both active_of one_tick_on one_tick_older (λ o. refl) calls
 active-event calls _ = refl
@@ -74,7 +62,7 @@ active-event calls _ = refl
 active-act : (tick : ℕ) (lines : List OpenLine) (calls : List OpenCall) (act : Act) →
     active_in (open_by_act tick lines calls act) ≡ calls_by_act (active_in calls) act
 active-act tick lines calls (Began call) = map-append active_of calls _
-active-act tick lines calls (Ended slot) = map-filter active_of (λ s. not (is_slot s.call.slot slot)) calls
+active-act tick lines calls (Ended slot) = map_filter active_of (λ s. not (is_slot s.call.slot slot)) calls
 active-act tick lines calls _ = refl
 
 active-acts : (tick : ℕ) (lines : List OpenLine) (calls : List OpenCall) (acts : List Act) →
@@ -114,7 +102,7 @@ lines-event plan lines _ = refl
 
 lines-act : (tick : ℕ) (lines : List OpenLine) (act : Act) → lines_in (lines_after_act tick lines act) ≡ lines_by_act (lines_in lines) act
 lines-act tick lines (Lined line) = map-append line_of lines _
-lines-act tick lines (Unlined radio) = map-filter line_of (λ l. not (l.source == radio)) lines
+lines-act tick lines (Unlined radio) = map_filter line_of (λ l. not (l.source == radio)) lines
 lines-act tick lines _ = refl
 
 lines-acts : (tick : ℕ) (lines : List OpenLine) (acts : List Act) → lines_in (fold (lines_after_act tick) lines acts) ≡ fold lines_by_act

@@ -4,7 +4,7 @@ use Rattle.dmr_keeper.specs.declared.calls.EndedCall.{EndedCall}
 use Rattle.dmr_keeper.specs.declared.carriers.CarrierCounts.{CarrierCounts}
 use Rattle.dmr_keeper.specs.declared.changes.Change.{Change}
 use Rattle.dmr_keeper.specs.declared.counts.TermCounts.{TermCounts}
-use Rattle.dmr_keeper.specs.declared.notes.Note.{Note}
+use Rattle.dmr_keeper.specs.declared.notes.TimedOccurrence.{TimedOccurrence}
 use Rattle.dmr_keeper.specs.declared.time.TermTime.{TermTime}
 use Rattle.dmr_keeper.specs.declared.time.TimedRecords.{TimedRecords}
 
@@ -12,7 +12,7 @@ use Rattle.dmr_keeper.specs.declared.time.TimedRecords.{TimedRecords}
 pub record Kept : Type 0 where
   pub calls : List EndedCall
   pub changes : List Change
-  pub notes : List Note
+  pub notes : List TimedOccurrence
   pub counts : List TermCounts  -- one for each term
   pub carriers : List CarrierCounts  -- those of each term, lowest carrier first
   pub times : List TermTime  -- one for each term

@@ -18,20 +18,20 @@ use Rattle.dmr_core.specs.declared.act.Acts.{Acts}
 use Rattle.dmr_core.specs.declared.entry.Entry.{Entry}
 use Rattle.dmr_core.specs.CommandWords.{row_of}
 use Rattle.dmr_core.specs.Late.{carrier_on}
-use Rattle.dmr_keeper.specs.declared.notes.Outcome.{Outcome}
-use Rattle.dmr_keeper.specs.declared.notes.Outcome.TheVariants as outcome
+use Rattle.dmr_keeper.specs.declared.notes.CommandOutcome.{CommandOutcome}
+use Rattle.dmr_keeper.specs.declared.notes.CommandOutcome.TheVariants as outcome
 use Rattle.dmr_keeper.specs.declared.notes.Occurrence.{Occurrence}
 use Rattle.dmr_keeper.specs.declared.notes.Occurrence.TheVariants.{CameUp, WasLost, JoinedCall}
 use Rattle.dmr_keeper.specs.declared.notes.Occurrence.TheVariants.{Refused, Commanded}
-use Rattle.dmr_keeper.specs.declared.notes.Note.{Note}
+use Rattle.dmr_keeper.specs.declared.notes.TimedOccurrence.{TimedOccurrence}
 use Rattle.dmr_keeper.specs.Ticks.{told_along}
 
 -- what a command with this result is noted as, if it is one that changes the site
-abbrev pub occurrence_of_command : Command → Outcome → Option Occurrence
+abbrev pub occurrence_of_command : Command → CommandOutcome → Option Occurrence
 occurrence_of_command c o = if (row_of c).changes_site then Some (Commanded c o) else None
 
 -- the result of a command that changes the site, by its reply
-abbrev pub outcome_of : Reply → Option Outcome
+abbrev pub outcome_of : Reply → Option CommandOutcome
 outcome_of reply.Done = Some outcome.Done
 outcome_of reply.NotRegistered = Some outcome.NotRegistered
 outcome_of reply.Busy = Some outcome.Busy
@@ -40,7 +40,7 @@ outcome_of reply.NoCarrier = Some outcome.NoCarrier
 outcome_of _ = None
 
 -- what a command with this result is noted as, if the reply states one
-abbrev pub occurrence_by_outcome : Command → Option Outcome → Option Occurrence
+abbrev pub occurrence_by_outcome : Command → Option CommandOutcome → Option Occurrence
 occurrence_by_outcome c None = None
 occurrence_by_outcome c (Some o) = occurrence_of_command c o
 
@@ -84,20 +84,20 @@ occurrence_by_act (Queue slot (Ackd info reason spare target additional)) =
 occurrence_by_act _ = None
 
 -- the note of an occurrence, if there is one
-abbrev pub note_if : ℕ → Option Occurrence → Option Note
+abbrev pub note_if : ℕ → Option Occurrence → Option TimedOccurrence
 note_if tick None = None
 note_if tick (Some what) = Some (record { tick = tick; what = what })
 
 -- the note of an act
-abbrev pub note_by_act : ℕ → Act → Option Note
+abbrev pub note_by_act : ℕ → Act → Option TimedOccurrence
 note_by_act tick act = note_if tick (occurrence_by_act act)
 
 -- the notes of an entry: that of its event, then those of its acts
-abbrev pub notes_in_entry : Settings → ℕ → Entry → List Note
+abbrev pub notes_in_entry : Settings → ℕ → Entry → List TimedOccurrence
 notes_in_entry plan tick entry =
     option_to_list (note_if tick (occurrence_by_event plan entry.event entry.acts))
     ++ filter_map (note_by_act tick) entry.acts.list
 
 -- the notes of a journal, from the ticks before it
-abbrev pub notes_in : Settings → ℕ → List Entry → List Note
+abbrev pub notes_in : Settings → ℕ → List Entry → List TimedOccurrence
 notes_in plan ticks journal = told_along (notes_in_entry plan) ticks journal

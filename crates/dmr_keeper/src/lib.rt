@@ -5,7 +5,7 @@
 //! - each call that ended, with the ticks at which it began and ended, how long its request waited for a slot, and the
 //!   [`EndCause`];
 //! - each [`Change`] of a registration;
-//! - each [`Note`]: a carrier that came up or was lost, a radio that joined a call, a refused request, an operator's
+//! - each [`TimedOccurrence`]: a carrier that came up or was lost, a radio that joined a call, a refused request, an operator's
 //!   command that changes the site;
 //! - the [`TermCounts`], and the [`CarrierCounts`] of each carrier that had an entry.
 //!
@@ -54,7 +54,7 @@ pub use keeper::{Forget, KeepFault, Keeper};
 pub use laws::{calls_are_counted_once, carried_is_the_sites, few_events_end_calls, records_join};
 pub use lines::OpenLine;
 pub use memory::InMemory;
-pub use notes::{Note, Occurrence, Outcome};
+pub use notes::{CommandOutcome, Occurrence, TimedOccurrence};
 pub use record_queue::{MOST_WAITING, RecordQueue};
 pub use recorder::Recorder;
 pub use records::{Records, RecordsFault, records_of};

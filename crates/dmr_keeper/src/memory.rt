@@ -9,7 +9,7 @@ use crate::carriers::CarrierCounts;
 use crate::changes::Change;
 use crate::counts::TermCounts;
 use crate::keeper::{KeepFault, Keeper};
-use crate::notes::Note;
+use crate::notes::TimedOccurrence;
 use crate::time::{TermTime, TimedRecords};
 use dmr_pdu::{Address, OutOfMemory};
 use std::alloc::Global;
@@ -20,7 +20,7 @@ use std::marker::Model;
 pub struct InMemory {
     calls: Vec<EndedCall>,
     changes: Vec<Change>,
-    notes: Vec<Note>,
+    notes: Vec<TimedOccurrence>,
     counts: Vec<TermCounts>,
     carriers: Vec<CarrierCounts>,
     times: Vec<TermTime>,
@@ -74,7 +74,7 @@ impl InMemory {
     }
 
     /// The notes of all terms, oldest first.
-    pub fn notes(&self) -> &[Note]
+    pub fn notes(&self) -> &[TimedOccurrence]
         ensures { result.now ≡ self.now.notes }
     {
         self.notes.as_slice()

@@ -19,7 +19,7 @@ use std::alloc::Global;
 
 /// The result of an operator's command that changes the site.
 #[derive(Clone, Copy, Debug, PartialEq, Eq)]
-pub enum Outcome {
+pub enum CommandOutcome {
     /// The command was done.
     Done,
     /// No radio of this number is registered.
@@ -65,13 +65,13 @@ pub enum Occurrence {
         /// The command.
         command: Command,
         /// The result.
-        outcome: Outcome,
+        outcome: CommandOutcome,
     },
 }
 
 /// What happened, and when.
 #[derive(Clone, Copy, Debug, PartialEq, Eq)]
-pub struct Note {
+pub struct TimedOccurrence {
     /// The tick, counted over all terms.
     pub tick: u64,
     /// What happened.
@@ -79,7 +79,7 @@ pub struct Note {
 }
 
 /// What a command with this result is noted as. `None` if it is not one that changes the site.
-fn occurrence_of_command(command: &Command, outcome: Outcome) -> Option<Occurrence>
+fn occurrence_of_command(command: &Command, outcome: CommandOutcome) -> Option<Occurrence>
     ensures { result ≡ commanded command.now outcome }
 {
     if command.changes_site() {
@@ -93,15 +93,15 @@ fn occurrence_of_command(command: &Command, outcome: Outcome) -> Option<Occurren
 }
 
 /// The result that a reply states. `None` if it is the reply to a command that asks.
-fn outcome_of(reply: &Reply) -> Option<Outcome>
+fn outcome_of(reply: &Reply) -> Option<CommandOutcome>
     ensures { result ≡ outcome_by_reply reply.now }
 {
     match reply {
-        Reply::Done => Some(Outcome::Done),
-        Reply::NotRegistered => Some(Outcome::NotRegistered),
-        Reply::Busy => Some(Outcome::Busy),
-        Reply::NoCall => Some(Outcome::NoCall),
-        Reply::NoCarrier => Some(Outcome::NoCarrier),
+        Reply::Done => Some(CommandOutcome::Done),
+        Reply::NotRegistered => Some(CommandOutcome::NotRegistered),
+        Reply::Busy => Some(CommandOutcome::Busy),
+        Reply::NoCall => Some(CommandOutcome::NoCall),
+        Reply::NoCarrier => Some(CommandOutcome::NoCarrier),
         Reply::Status { .. }
         | Reply::Radios(_)
         | Reply::Calls(_)
@@ -226,19 +226,27 @@ pub fn occurrence_of_act(act: &Act) -> Option<Occurrence>
 
 /// Adds the note of an occurrence, if there is one.
 ///
-/// Its callers hand it an [`Occurrence`] and not a [`Note`]. The check of a function with a `Vec<Note>` needs one at
+/// Its callers hand it an [`Occurrence`] and not a [`TimedOccurrence`]. The check of a function with a `Vec<TimedOccurrence>` needs one at
 /// hand.
-fn add_note(tick: u64, what: Option<Occurrence>, notes: &mut Vec<Note>) -> Result<(), OutOfMemory>
+fn add_note(
+    tick: u64,
+    what: Option<Occurrence>,
+    notes: &mut Vec<TimedOccurrence>,
+) -> Result<(), OutOfMemory>
     ensures { OnOk result (notes.new.items ≡ notes.old.items ++ option_to_list (note_if tick what)) }
 {
     match what {
-        Some(what) => Ok(notes.push(Note { tick, what })?),
+        Some(what) => Ok(notes.push(TimedOccurrence { tick, what })?),
         None => Ok(()),
     }
 }
 
 /// Adds the notes of acts.
-fn add_notes_of_acts(tick: u64, acts: &[Act], notes: &mut Vec<Note>) -> Result<(), OutOfMemory>
+fn add_notes_of_acts(
+    tick: u64,
+    acts: &[Act],
+    notes: &mut Vec<TimedOccurrence>,
+) -> Result<(), OutOfMemory>
     ensures { OnOk result
         (notes.new.items ≡ notes.old.items ++ filter_map (note_by_act tick) acts.now) }
 {
@@ -253,7 +261,7 @@ fn add_notes(
     plan: &Plan,
     tick: u64,
     entry: &Entry,
-    notes: &mut Vec<Note>,
+    notes: &mut Vec<TimedOccurrence>,
 ) -> Result<(), OutOfMemory>
     ensures { OnOk result
         (notes.new.items ≡ notes.old.items ++ notes_in_entry plan.now tick entry.now) }
@@ -270,7 +278,7 @@ pub fn notes_of(
     plan: &Plan,
     ticks: u64,
     journal: &[Entry],
-) -> Result<Vec<Note>, OutOfMemory>
+) -> Result<Vec<TimedOccurrence>, OutOfMemory>
     requires { ticks + ticks_in journal.now < 2 ^ 64 }
     ensures { IfOk result (λ notes. notes.items ≡ notes_in plan.now ticks journal.now) }
 {

@@ -13,7 +13,7 @@ use crate::carried::Carried;
 use crate::carriers::{CarrierCounts, counts_of_carriers};
 use crate::changes::{Change, changes_of};
 use crate::counts::{TermCounts, count_ticks, counts_of};
-use crate::notes::{Note, notes_of};
+use crate::notes::{TimedOccurrence, notes_of};
 use crate::registered::apply_to_registered;
 use crate::walk::apply_journal;
 use dmr_core::Entry;
@@ -31,7 +31,7 @@ pub struct Records {
     /// The changes of registration, oldest first.
     pub changes: Vec<Change>,
     /// The notes, oldest first. Of one entry, that of its event comes first.
-    pub notes: Vec<Note>,
+    pub notes: Vec<TimedOccurrence>,
     /// The counts of the term.
     pub counts: TermCounts,
     /// The counts of each carrier of which the journal has an entry, lowest number first.

@@ -1,8 +1,10 @@
 -- The states that an engine keeps are the connections and numbers that its contracts see.
-use Rattle.std.proofs.Common.{◌≡◌, ◌<◌, ◌+◌, ℕ, zero, suc, List, [], ◌∷◌, ◌++◌, Option, Some, None, length, map, get_or, set, replicate, refl, sym, ap, ◌∙◌, arith, ⊎_elim, subst, get_or-set_same, get_or-set_other, length-set}
+use Rattle.std.proofs.Common.{◌≡◌, ◌<◌, ◌+◌, ℕ, zero, suc, List, [], ◌∷◌, ◌++◌, Option, Some, None, length, map, get_or, set, replicate}
+use Rattle.std.proofs.Common.{refl, sym, ap, ◌∙◌, arith, ⊎_elim, subst, get_or-set_same, get_or-set_other, length-set}
 use Rattle.std.specs.Prelude.{Result, Ok, Err, OnOk}
 use Rattle.std.proofs.lemmas.Bool.{cases_eq}
-use Rattle.std.proofs.lemmas.List.{map-set, length-map, length_push, map-append, replicate_more, get_or_append_left, get_or_push, get_or_read}
+use Rattle.std.proofs.lemmas.List.{map-set, length-map, length_push, map-append, replicate_more, get_or_append_left, get_or_push}
+use Rattle.std.proofs.lemmas.List.{get_or_read}
 use Rattle.dmr_plan.specs.declared.settings.Settings.{Settings}
 use Rattle.dmr_core.specs.Facts.{Facts}
 use Rattle.dmr_link.specs.declared.carrier_state.CarrierState.{CarrierState}
@@ -22,7 +24,8 @@ use Rattle.dmr_link.specs.Session.{frames_said}
 use Rattle.dmr_link.specs.Sound.{IsConnectionSound, IsNumberingOf}
 use Rattle.dmr_link.specs.State.{State, connection_of, next_of, AreConnections}
 use Rattle.dmr_frames.specs.declared.version.Version.{Version}
-use Rattle.dmr_link.proofs.PastsOfEngines.{who_carrier, who_greatest, get_or-all_same}
+use Rattle.dmr_link.proofs.PastsOfEngines.{who_carrier, who_greatest}
+use Rattle.dmr_pdu.proofs.ListLaws.{replicated}
 
 pub read_connection : (sessions : List (Option CarrierState)) (c : ℕ) →
     get_or (map connection_in sessions) c Closed ≡ connection_in (get_or sessions c None)
@@ -103,7 +106,7 @@ begun_all plan sessions are = record {
   where
     closed : (c : ℕ) → connection_in (get_or sessions c None) ≡ Closed
     closed c = sym (read_connection sessions c) ∙ ap (λ (ks : List Connection). get_or ks c Closed) are.none
-        ∙ get_or-all_same {A = Connection} 16 c Closed
+        ∙ replicated {A = Connection} 16 c Closed
 
 -- ---- one of the states changes
 

@@ -1,11 +1,14 @@
 -- The passages of a gate in a call whose happenings are in order.
 use Rattle.std.proofs.Common.{◌≡◌, ◌==◌, List, [], ◌∷◌, Bool, true, false, cond, refl, sym, ap, subst, ◌∙◌}
-use Rattle.dmr_wire.specs.Answers.{Opened, NotYet, Finished, Came, InputEnded, ReadInterrupted, ReadBlocked, ReadFailed, Took, WriteInterrupted, WriteBlocked, WriteFailed, Again, Silent}
+use Rattle.dmr_wire.specs.Answers.{Opened, NotYet, Finished, Came, InputEnded, ReadInterrupted, ReadBlocked, ReadFailed, Took}
+use Rattle.dmr_wire.specs.Answers.{WriteInterrupted, WriteBlocked, WriteFailed, Again, Silent}
 use Rattle.dmr_link.specs.declared.desk.Deposit.{Deposit}
 use Rattle.dmr_link.specs.declared.ended.Ended.{Ended}
 use Rattle.dmr_link.specs.declared.ended.Ended.TheVariants as ended
 use Rattle.dmr_link.specs.Passages.{Passage, Entered, Shut, Left}
-use Rattle.dmr_link.specs.Happenings.{Happening, Answered, Deposited, Passed, deposits_in, passages_in, is_read, Stage, Outside, Within, Answering, TurnedAway, ShutOut, Blocked, Disordered, stage_then, stage_after_all, stage_at, passages_of}
+use Rattle.dmr_link.specs.Happenings.{Happening, Answered, Deposited, Passed, deposits_in, passages_in, is_read, Stage, Outside, Within}
+use Rattle.dmr_link.specs.Happenings.{Answering, TurnedAway, ShutOut, Blocked, Disordered, stage_then, stage_after_all, stage_at}
+use Rattle.dmr_link.specs.Happenings.{passages_of}
 
 stays_disordered : (xs : List Happening) → stage_after_all Disordered xs ≡ Disordered
 stays_disordered [] = refl

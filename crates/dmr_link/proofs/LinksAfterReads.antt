@@ -14,11 +14,14 @@ use Rattle.dmr_link.specs.declared.stream.Stream.{Stream}
 use Rattle.dmr_link.specs.declared.link_state.LinkState.{LinkState}
 use Rattle.dmr_link.specs.Notices.{list_of_notice}
 use Rattle.dmr_link.specs.Session.{events_in, event_in}
-use Rattle.dmr_link.specs.Peers.{meaning_from, left_from, text_onward, next_onward, text_to_peer, peer_notice_text, up_of, all_produce, left_after, closes_by}
-use Rattle.dmr_link.specs.Sessions.{Going, InputOver, ReadFaulty, WriteFaulty, Session, with_came, with_taken, how_then, with_how, closed_by, kept_of, lost_of, notices_waiting, IsClosed, IsLeftBy, IsQuiet}
+use Rattle.dmr_link.specs.Peers.{meaning_from, left_from, text_onward, next_onward, text_to_peer, peer_notice_text, up_of, all_produce}
+use Rattle.dmr_link.specs.Peers.{left_after, closes_by}
+use Rattle.dmr_link.specs.Sessions.{Going, InputOver, ReadFaulty, WriteFaulty, Session, with_came, with_taken, how_then, with_how}
+use Rattle.dmr_link.specs.Sessions.{closed_by, kept_of, lost_of, notices_waiting, IsClosed, IsLeftBy, IsQuiet}
 use Rattle.dmr_link.specs.LinkSteps.{closed_as, kept_then, peer_notice_of, closing_then, state_after}
 use Rattle.dmr_link.proofs.ClosingsByOctets.{closes_how, closing_more}
-use Rattle.dmr_link.proofs.TextsGrow.{events_of, text_quiet, next_quiet, text_alone, next_alone, text_nothing, next_nothing, meaning_more, left_more, meaning_end, next_of}
+use Rattle.dmr_link.proofs.TextsGrow.{events_of, text_quiet, next_quiet, text_alone, next_alone, text_nothing, next_nothing, meaning_more}
+use Rattle.dmr_link.proofs.TextsGrow.{left_more, meaning_end, next_of}
 use Rattle.dmr_link.proofs.LinksAfterSteps.{by_going, session}
 
 -- ---- a piece of unread octets is processed

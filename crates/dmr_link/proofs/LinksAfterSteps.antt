@@ -18,10 +18,14 @@ use Rattle.dmr_link.specs.declared.link_state.LinkState.{LinkState}
 use Rattle.dmr_link.specs.CarrierStates.{state_on}
 use Rattle.dmr_link.specs.Meaning.{left_by_octets}
 use Rattle.dmr_link.specs.Session.{events_in}
-use Rattle.dmr_link.specs.Peers.{meaning_from, left_from, text_onward, next_onward, text_to_peer, answer_text, next_after_answer, up_of, is_going, numbered, numbering_of}
-use Rattle.dmr_link.specs.Sessions.{How, Going, InputOver, ReadFaulty, WriteFaulty, CutAfter, Session, with_taken, how_then, with_how, with_calls, closed_by, has_ended, kept_of, lost_of, notices_waiting, IsAt, IsLeftBy, IsOn, IsQuiet, IsTaken}
+use Rattle.dmr_link.specs.Peers.{meaning_from, left_from, text_onward, next_onward, text_to_peer, answer_text, next_after_answer, up_of}
+use Rattle.dmr_link.specs.Peers.{is_going, numbered, numbering_of}
+use Rattle.dmr_link.specs.Sessions.{How, Going, InputOver, ReadFaulty, WriteFaulty, CutAfter, Session, with_taken, how_then, with_how}
+use Rattle.dmr_link.specs.Sessions.{with_calls, closed_by, has_ended, kept_of, lost_of, notices_waiting, IsAt, IsLeftBy, IsOn, IsQuiet}
+use Rattle.dmr_link.specs.Sessions.{IsTaken}
 use Rattle.dmr_link.specs.LinkSteps.{closed_as, with_next, with_pending}
-use Rattle.dmr_link.proofs.TextsGrow.{IsOwn, events_of, events_more, text-append, text_event, next_event, text_lost, text_extra, meaning_end, next_of, lost_own}
+use Rattle.dmr_link.proofs.TextsGrow.{IsOwn, events_of, events_more, text-append, text_event, next_event, text_lost, text_extra}
+use Rattle.dmr_link.proofs.TextsGrow.{meaning_end, next_of, lost_own}
 
 -- a connection, by its parts
 abbrev pub session : List ℕ → List ℕ → How → Bool → List Deposit → Session

@@ -1,9 +1,11 @@
 -- A link is as the newest of its connections left it, and the others are over.
-use Rattle.std.proofs.Common.{◌≡◌, ℕ, ◌+◌, ◌-◌, List, [], ◌∷◌, ◌++◌, Bool, true, false, cond, ◌||◌, Option, Some, None, length, refl, sym, ap, subst, ◌∙◌, arith, append_assoc}
+use Rattle.std.proofs.Common.{◌≡◌, ℕ, ◌+◌, ◌-◌, List, [], ◌∷◌, ◌++◌, Bool, true, false, cond, ◌||◌, Option, Some, None, length, refl, sym}
+use Rattle.std.proofs.Common.{ap, subst, ◌∙◌, arith, append_assoc}
 use Rattle.std.specs.Prelude.{All, nat_lt}
 use Rattle.std.proofs.lemmas.List.{append-nil, length-append}
 use Rattle.std.proofs.lemmas.List.Elements.{All-nil, All-cons}
-use Rattle.dmr_wire.specs.Answers.{Answer, Opened, NotYet, Finished, Came, InputEnded, ReadInterrupted, ReadBlocked, ReadFailed, Took, WriteInterrupted, WriteBlocked, WriteFailed, Again, Silent, Reports}
+use Rattle.dmr_wire.specs.Answers.{Answer, Opened, NotYet, Finished, Came, InputEnded, ReadInterrupted, ReadBlocked, ReadFailed, Took}
+use Rattle.dmr_wire.specs.Answers.{WriteInterrupted, WriteBlocked, WriteFailed, Again, Silent, Reports}
 use Rattle.dmr_link.specs.Notices.{Notice}
 use Rattle.dmr_link.specs.declared.notices.SiteNotice.{SiteNotice}
 use Rattle.dmr_link.specs.declared.connection.CarrierIdentity.{CarrierIdentity}
@@ -23,11 +25,16 @@ use Rattle.dmr_link.specs.declared.stream.Stream.TheVariants as stream
 use Rattle.dmr_link.specs.declared.link_state.LinkState.{LinkState}
 use Rattle.dmr_frames.specs.declared.frame.Cause.{Cause}
 use Rattle.dmr_link.specs.Closing.{ended_of}
-use Rattle.dmr_link.specs.Happenings.{Happening, Answered, Deposited, Passed, answers_in, deposits_in, Outside, Disordered, stage_after_all, stage_at}
+use Rattle.dmr_link.specs.Happenings.{Happening, Answered, Deposited, Passed, answers_in, deposits_in, Outside, Disordered, stage_after_all}
+use Rattle.dmr_link.specs.Happenings.{stage_at}
 use Rattle.dmr_link.specs.Moves.{Moves, moment}
 use Rattle.dmr_link.specs.Passages.{Passage}
 use Rattle.dmr_link.specs.Peers.{meaning_from, text_to_peer, opened_for, is_going, up_of, left_from, next_onward}
-use Rattle.dmr_link.specs.Sessions.{How, Going, InputOver, ReadFaulty, WriteFaulty, CutAfter, Session, new_session, with_how, with_calls, Progress, progress_at, in_writing, progress_after_answer, progress_after_answers, reads_in, IsTaken, kept_of, lost_of, notices_waiting, closed_by, IsClosed, IsAt, IsLeftBy, IsOver, WasServed, HasPast, sessions_after, is_kept, is_lost, cut_session, cut_past, EndsAs, Sides, sides, Serves, Cuts, progress_after_all, has_ended}
+use Rattle.dmr_link.specs.Sessions.{How, Going, InputOver, ReadFaulty, WriteFaulty, CutAfter, Session, new_session, with_how, with_calls}
+use Rattle.dmr_link.specs.Sessions.{Progress, progress_at, in_writing, progress_after_answer, progress_after_answers, reads_in, IsTaken}
+use Rattle.dmr_link.specs.Sessions.{kept_of, lost_of, notices_waiting, closed_by, IsClosed, IsAt, IsLeftBy, IsOver, WasServed, HasPast}
+use Rattle.dmr_link.specs.Sessions.{sessions_after, is_kept, is_lost, cut_session, cut_past, EndsAs, Sides, sides, Serves, Cuts}
+use Rattle.dmr_link.specs.Sessions.{progress_after_all, has_ended}
 use Rattle.dmr_link.specs.LinkSteps.{is_live, lost_then, cut_state, with_new_connection, EndsBy, Listens}
 use Rattle.dmr_link.proofs.StepsFollow.{happens_none, ends_in_block}
 use Rattle.dmr_link.proofs.GatePassages.{gate_passed}

@@ -1,6 +1,7 @@
 -- The number of a link's next TX is one of its connection's version, since it follows from the octets that came and
 -- their answers.
-use Rattle.std.proofs.Common.{◌≡◌, ℕ, suc, List, [], ◌∷◌, ◌++◌, Bool, true, false, ◌==◌, Option, Some, None, map, length, refl, sym, ap, ◌∙◌, subst, append_assoc, arith}
+use Rattle.std.proofs.Common.{◌≡◌, ℕ, suc, List, [], ◌∷◌, ◌++◌, Bool, true, false, ◌==◌, Option, Some, None, map, length, refl, sym, ap}
+use Rattle.std.proofs.Common.{◌∙◌, subst, append_assoc, arith}
 use Rattle.std.specs.Prelude.{if◌then◌else◌}
 use Rattle.std.proofs.lemmas.List.{append-nil}
 use Rattle.std.proofs.lemmas.List.Sums.{fold-append}
@@ -28,16 +29,19 @@ use Rattle.dmr_link.specs.declared.stream.Peer.TheVariants.{Carrier}
 use Rattle.dmr_link.specs.declared.stream.Stream.{Stream}
 use Rattle.dmr_link.specs.declared.stream.Stream.TheVariants as stream
 use Rattle.dmr_link.specs.declared.link_state.LinkState.{LinkState}
-use Rattle.dmr_link.specs.Meaning.{is_accepted, is_last, is_repeat, newest_after, event_of, refusal_of_first, meaning_of_octets, left_by_octets}
+use Rattle.dmr_link.specs.Meaning.{is_accepted, is_last, is_repeat, newest_after, event_of, refusal_of_first, meaning_of_octets}
+use Rattle.dmr_link.specs.Meaning.{left_by_octets}
 use Rattle.dmr_link.specs.Notices.{list_of_notice}
 use Rattle.dmr_link.specs.Notices.{Notice, Happened, Accepted, Refused, Rejected}
 use Rattle.dmr_link.specs.Numbering.{next_after, first_number, next_after_frames}
 use Rattle.dmr_link.specs.Peers.{entry_of_deposit, next_onward, left_from, meaning_from}
 use Rattle.dmr_link.specs.Session.{event_frames, is_poll_of, session_frames, welcome, events_in}
 use Rattle.dmr_link.specs.CarrierStates.{is_open}
-use Rattle.dmr_link.specs.Sessions.{Session, How, Going, InputOver, ReadFaulty, WriteFaulty, CutAfter, IsAt, HasPast, IsClosed, kept_of, lost_of, notices_waiting, has_ended}
+use Rattle.dmr_link.specs.Sessions.{Session, How, Going, InputOver, ReadFaulty, WriteFaulty, CutAfter, IsAt, HasPast, IsClosed, kept_of}
+use Rattle.dmr_link.specs.Sessions.{lost_of, notices_waiting, has_ended}
 use Rattle.dmr_link.specs.Sound.{IsNumberingOf}
-use Rattle.dmr_link.specs.Steps.{new_connection, waiting_produces, running_produces, waiting_leaves, running_leaves, notice_of_octet, connection_after_octet, notices_of_octets, connection_after_octets}
+use Rattle.dmr_link.specs.Steps.{new_connection, waiting_produces, running_produces, waiting_leaves, running_leaves, notice_of_octet}
+use Rattle.dmr_link.specs.Steps.{connection_after_octet, notices_of_octets, connection_after_octets}
 use Rattle.dmr_link.specs.LinkSteps.{next_when_answered, IsLinkNumbering}
 use Rattle.dmr_link.proofs.NumbersFollowVersions.{begins_numbered, event_frames_number}
 use Rattle.dmr_link.proofs.OctetsMeanWhatTheyProduce.{octets-open, octets-left}

@@ -1,5 +1,6 @@
 -- The number of a connection's next TX stays one of its version.
-use Rattle.std.proofs.Common.{◌≡◌, ◌+◌, ◌%◌, ℕ, List, [], ◌∷◌, ◌++◌, Bool, true, false, Option, Some, None, refl, sym, ap, ◌∙◌, subst, arith}
+use Rattle.std.proofs.Common.{◌≡◌, ◌+◌, ◌%◌, ℕ, List, [], ◌∷◌, ◌++◌, Bool, true, false, Option, Some, None, refl, sym, ap, ◌∙◌, subst}
+use Rattle.std.proofs.Common.{arith}
 use Rattle.std.specs.Prelude.{is_some, option_map, flat_map, if◌then◌else◌}
 use Rattle.std.proofs.lemmas.List.{append-nil}
 use Rattle.dmr_plan.specs.declared.settings.Settings.{Settings}
@@ -33,7 +34,8 @@ use Rattle.dmr_link.specs.Numbering.{first_number, next_after_frames}
 use Rattle.dmr_link.specs.Room.{numbered_after_all}
 use Rattle.dmr_link.specs.Session.{transmissions, event_frames, frames_said}
 use Rattle.dmr_link.specs.Sound.{IsConnectionSound, IsNumberingOf}
-use Rattle.dmr_link.specs.Steps.{waiting_produces, running_produces, waiting_leaves, running_leaves, notice_of_octet, connection_after_octet}
+use Rattle.dmr_link.specs.Steps.{waiting_produces, running_produces, waiting_leaves, running_leaves, notice_of_octet}
+use Rattle.dmr_link.specs.Steps.{connection_after_octet}
 
 -- ---- a property that each next number keeps is kept by the answer to an event
 

@@ -18,10 +18,13 @@ use Rattle.dmr_link.specs.Notices.{Notice}
 use Rattle.dmr_link.specs.Notices.{Happened, Accepted}
 use Rattle.dmr_link.specs.declared.connection.Connection.{Connection}
 use Rattle.dmr_link.specs.declared.connection.Connection.TheVariants.{Closed, Waiting, Running}
-use Rattle.dmr_link.specs.Meaning.{is_accepted, refusal_of_first, is_last, is_repeat, newest_after, fresh_frames, event_of, while_up, meaning_of_frames, is_stream_fault, no_octets, meaning_of_octets, notices_at_end, left_up, left_by_frames, left_by_octets}
+use Rattle.dmr_link.specs.Meaning.{is_accepted, refusal_of_first, is_last, is_repeat, newest_after, fresh_frames, event_of, while_up}
+use Rattle.dmr_link.specs.Meaning.{meaning_of_frames, is_stream_fault, no_octets, meaning_of_octets, notices_at_end, left_up}
+use Rattle.dmr_link.specs.Meaning.{left_by_frames, left_by_octets}
 use Rattle.dmr_link.specs.Notices.{list_of_notice}
 use Rattle.dmr_link.proofs.EachFrame.{repeat_stays}
-use Rattle.dmr_link.specs.Steps.{new_connection, waiting_produces, waiting_leaves, running_produces, running_leaves, notice_of_octet, connection_after_octet, notices_of_octets, connection_after_octets}
+use Rattle.dmr_link.specs.Steps.{new_connection, waiting_produces, waiting_leaves, running_produces, running_leaves, notice_of_octet}
+use Rattle.dmr_link.specs.Steps.{connection_after_octet, notices_of_octets, connection_after_octets}
 
 -- the notices of the end, if the connection has ended
 abbrev ending : Bool → ℕ → Connection → List Notice

@@ -1,5 +1,6 @@
 -- The notices and the outputs of octets: those of the next piece, and those of the octets after it.
-use Rattle.std.proofs.Common.{◌≡◌, ℕ, ◌+◌, ◌≤◌, Bool, List, ◌++◌, Option, Some, None, take, drop, drop-drop, take-append-drop, sym, ap, ◌∙◌, append_assoc, arith}
+use Rattle.std.proofs.Common.{◌≡◌, ℕ, ◌+◌, ◌≤◌, Bool, List, ◌++◌, Option, Some, None, take, drop, drop-drop, take-append-drop, sym, ap, ◌∙◌}
+use Rattle.std.proofs.Common.{append_assoc, arith}
 use Rattle.std.proofs.lemmas.List.Sums.{fold-append}
 use Rattle.dmr_core.specs.State.{SiteState as Site}
 use Rattle.dmr_frames.specs.declared.frame.FrameOut.{FrameOut}

@@ -1,10 +1,9 @@
 -- The octets of an operator, line by line.
-use Rattle.std.proofs.Common.{◌≡◌, ℕ, ◌+◌, ◌*◌, ◌<◌, ◌≤◌, List, [], ◌∷◌, ◌++◌, Bool, true, false, cond, Option, length, take, drop, get_or, drop-drop, take-append-drop, refl, sym, ap, ◌∙◌, arith, append_assoc}
+use Rattle.std.proofs.Common.{◌≡◌, ℕ, ◌+◌, ◌*◌, ◌<◌, ◌≤◌, List, [], ◌∷◌, ◌++◌, Bool, true, false, cond, Option, length, take, drop, get_or}
+use Rattle.std.proofs.Common.{drop-drop, take-append-drop, refl, sym, ap, ◌∙◌, arith, append_assoc}
 use Rattle.std.specs.Prelude.{◌==◌, filter, flat_map}
 use Rattle.std.proofs.lemmas.List.{append-nil, length-append, take_more}
 use Rattle.std.proofs.lemmas.List.Sums.{fold-append, fold_push}
-use Rattle.std.proofs.lemmas.Grind.{flat_map-append}
-use Rattle.dmr_pdu.proofs.Laws.{items-append}
 use Rattle.dmr_console.specs.declared.line_cutter.LineStep.{LineStep}
 use Rattle.dmr_console.specs.declared.line_cutter.LineStep.TheVariants.{Need, Line, TooLong}
 use Rattle.dmr_console.specs.Lines.{line_step_of}
@@ -15,6 +14,7 @@ use Rattle.dmr_link.specs.Answering.{facts_from, site_after_notices, facts_after
 use Rattle.dmr_link.specs.Console.{line_means, said_from, ends_in, console_from}
 use Rattle.dmr_link.specs.Notices.{list_of_notice}
 use Rattle.dmr_link.proofs.PiecesInTwo.{console_from-append}
+use Rattle.dmr_link.proofs.PastsOfEngines.{said_from-append}
 
 -- ---- the notices of octets
 
@@ -27,11 +27,6 @@ said_step (Line line) lines = refl
 said_cons : (begun : List ℕ) (x : ℕ) (xs : List ℕ) → said_from begun (x ∷ xs) ≡ line_means (line_step_at begun x) ++ said_from
     (open_line_after_octet begun x) xs
 said_cons begun x xs = said_step (line_step_at begun x) (line_steps_from (open_line_after_octet begun x) xs)
-
-said-append : (begun a b : List ℕ) → said_from begun (a ++ b) ≡ said_from begun a ++ said_from (open_line_after begun a) b
-said-append begun a b =
-    ap (λ (lines : List LineStep). flat_map line_means lines) (items-append open_line_after_octet line_step_at line_produced begun a b)
-    ∙ flat_map-append line_means (line_steps_from begun a) (line_steps_from (open_line_after begun a) b)
 
 -- ---- each notice is of a line that the octets end
 
@@ -83,7 +78,7 @@ module _ (begun left octets : List ℕ) (i : ℕ) (within : i < length octets) (
   pub said_by_one : said_from begun (take i octets) ≡ [] → said_from begun (take (i + 1) octets) ≡ line_means (line_step_at left it)
   said_by_one silent =
       ap (said_from begun) (take_more octets i 0 within)
-      ∙ said-append begun (take i octets) (it ∷ [])
+      ∙ said_from-append begun (take i octets) (it ∷ [])
       ∙ ap (λ (ns : List Notice). ns ++ said_from (open_line_after begun (take i octets)) (it ∷ [])) silent
       ∙ said_cons (open_line_after begun (take i octets)) it []
       ∙ append-nil (line_means (line_step_at (open_line_after begun (take i octets)) it))
@@ -108,7 +103,7 @@ module _ (begun left octets : List ℕ) (i n : ℕ) (it : Option Notice) (brings
 
   said_go : said_from begun (drop i octets) ≡ list_of_notice it ++ said_from left more
   said_go =
-      ap (said_from begun) in_two ∙ said-append begun (take n (drop i octets)) more ∙ (λ j. brings j ++ said_from (sym left_is j) more)
+      ap (said_from begun) in_two ∙ said_from-append begun (take n (drop i octets)) more ∙ (λ j. brings j ++ said_from (sym left_is j) more)
 
   few_here : length (list_of_notice it) + ends_in more ≤ ends_in (drop i octets)
   few_here =

@@ -1,5 +1,6 @@
 -- A past, and the engine that follows from it: the connections, and the open line.
-use Rattle.std.proofs.Common.{◌≡◌, ◌<◌, ◌≤◌, ℕ, zero, suc, replicate, List, [], ◌∷◌, ◌++◌, Bool, true, false, cond, Option, Some, None, length, get_or, set, drop, refl, sym, ap, ◌∙◌, arith, ⊎_elim, subst, get_or-set_same, get_or-set_other, length-set}
+use Rattle.std.proofs.Common.{◌≡◌, ◌<◌, ◌≤◌, ℕ, replicate, List, [], ◌∷◌, ◌++◌, Bool, true, false, cond, Option, Some, None, length, get_or}
+use Rattle.std.proofs.Common.{set, drop, refl, sym, ap, ◌∙◌, arith, ⊎_elim, subst, get_or-set_same, get_or-set_other, length-set}
 use Rattle.std.specs.Prelude.{◌==◌, option_map}
 use Rattle.std.specs.List.{All, flat_map}
 use Rattle.std.proofs.lemmas.Grind.{flat_map-append}
@@ -24,10 +25,13 @@ use Rattle.dmr_link.specs.declared.connection.Connection.TheVariants.{Closed}
 use Rattle.dmr_link.specs.Input.{Piece, Input, At, Saying, Ticking}
 use Rattle.dmr_link.specs.Identities.{greatest_of, who_of}
 use Rattle.dmr_link.specs.Numbering.{next_after_frames}
-use Rattle.dmr_link.specs.Inputs.{piece_produces, piece_leaves, produced_by, connections_by, frames_by, numbers_by, leaves_by, input_produces, input_leaves, all_produced, all_leave}
-use Rattle.dmr_link.specs.Records.{Record, records_after, meaning_of_records, left_by_records, recorded_by, added_by, Past, no_past, input_past, input_means, all_past, all_mean, HasPast}
+use Rattle.dmr_link.specs.Inputs.{piece_produces, piece_leaves, produced_by, connections_by, frames_by, numbers_by, leaves_by}
+use Rattle.dmr_link.specs.Inputs.{input_produces, input_leaves, all_produced, all_leave}
+use Rattle.dmr_link.specs.Records.{Record, records_after, meaning_of_records, left_by_records, recorded_by, added_by, Past, no_past}
+use Rattle.dmr_link.specs.Records.{input_past, input_means, all_past, all_mean, HasPast}
 use Rattle.dmr_link.specs.State.{State, connection_of, next_of, IsEngine}
 use Rattle.dmr_link.proofs.RecordLemmas.{adds, leaves}
+use Rattle.dmr_pdu.proofs.ListLaws.{replicated}
 
 -- ---- the plan's carriers
 
@@ -217,13 +221,8 @@ all_have_past s past (i ∷ is) fit h =
 
 -- ---- the past without inputs
 
-pub get_or-all_same : {A : Type 0} (n q : ℕ) (a : A) → get_or (replicate n a) q a ≡ a
-get_or-all_same zero q a = refl
-get_or-all_same (suc n) zero a = refl
-get_or-all_same (suc n) (suc q) a = get_or-all_same n q a
-
 pub none_has_past : (s : State) → s.connections ≡ replicate 16 Closed → s.console ≡ [] → HasPast s no_past
 none_has_past s e f = record {
-  connections = λ c who g. ap (λ (ks : List Connection). get_or ks c Closed) e ∙ get_or-all_same {A = Connection} 16 c Closed;
+  connections = λ c who g. ap (λ (ks : List Connection). get_or ks c Closed) e ∙ replicated {A = Connection} 16 c Closed;
   console = f;
 }

@@ -1,5 +1,6 @@
 -- Octets up to the end of a frame: the notice that they produce together, and the connection after them.
-use Rattle.std.proofs.Common.{◌≡◌, ℕ, suc, ◌<◌, ◌≤◌, List, [], ◌∷◌, ◌++◌, Option, length, length-take-le, take, get_or, sym, ap, ◌∙◌, arith, ⊎_elim, subst}
+use Rattle.std.proofs.Common.{◌≡◌, ℕ, suc, ◌<◌, ◌≤◌, List, [], ◌∷◌, ◌++◌, Option, length, length-take-le, take, get_or, sym, ap, ◌∙◌, arith}
+use Rattle.std.proofs.Common.{⊎_elim, subst}
 use Rattle.std.proofs.lemmas.Bool.{cases_lt}
 use Rattle.std.proofs.lemmas.List.{append-nil, get_or_past, get_or-take}
 use Rattle.dmr_frames.specs.declared.cutter.Step.{Step}
@@ -17,7 +18,8 @@ use Rattle.dmr_link.specs.Notices.{Notice}
 use Rattle.dmr_link.specs.Numbering.{next_after_frames}
 use Rattle.dmr_link.specs.Session.{frames_said}
 use Rattle.dmr_link.specs.Sound.{IsConnectionSound, IsNumberingOf}
-use Rattle.dmr_link.specs.Steps.{waiting_produces, waiting_leaves, running_produces, running_leaves, notice_of_octet, connection_after_octet, notices_of_octets, connection_after_octets}
+use Rattle.dmr_link.specs.Steps.{waiting_produces, waiting_leaves, running_produces, running_leaves, notice_of_octet}
+use Rattle.dmr_link.specs.Steps.{connection_after_octet, notices_of_octets, connection_after_octets}
 use Rattle.dmr_link.proofs.ConnectionsStaySound.{waiting_stays, running_stays}
 use Rattle.dmr_link.proofs.NumberingLemmas.{next_after_frames-append}
 use Rattle.dmr_link.proofs.NumbersFollowVersions.{next_by, numbering_goes}

@@ -3,11 +3,11 @@ use Rattle.std.proofs.Common.{◌≡◌, rules, Bool, true, false, List, [], ◌
 use Rattle.std.specs.Prelude.{◌&&◌}
 use Rattle.std.specs.Bool.{Decides, beq}
 use Rattle.std.proofs.lemmas.Bool.{false≢true, eqb-true}
-use Rattle.dmr_pdu.proofs.RowLemmas.{left, right}
 use Rattle.dmr_pdu.specs.declared.pdu.Pdu.{Pdu}
 use Rattle.dmr_pdu.specs.declared.pdu.Pdu.TheVariants.{Aloha, Ahoy, Random, Ackd, Acku, Clear, PvGrant, TvGrant, Move, Other}
 use Rattle.dmr_pdu.specs.contracts.pdu.PduPartialEq.TheImpl as pdu_eq
 use Rattle.dmr_pdu.specs.contracts.pdu.PduEq.TheImpl.Laws as laws
+use Rattle.dmr_pdu.proofs.ListLaws.{left, right}
 
 -- the conjunction of tests
 abbrev joined : List Bool → Bool

@@ -1,6 +1,7 @@
 -- The functions `octets_of` and `pdu_of` return the octets that a PDU is written as, and the PDU that agrees with
 -- octets.
-use Rattle.std.proofs.Common.{◌≡◌, ◌==◌, ℕ, ◌+◌, ◌-◌, ◌*◌, ◌/◌, ◌%◌, ◌^◌, ◌<◌, ◌≤◌, Bool, true, false, cond, List, [], ◌∷◌, Option, Some, None, length, get_or, map, refl, sym, ap, ◌∙◌, arith, ⊎_elim, zero-add}
+use Rattle.std.proofs.Common.{◌≡◌, ◌==◌, ℕ, ◌+◌, ◌-◌, ◌*◌, ◌/◌, ◌%◌, ◌^◌, ◌<◌, ◌≤◌, Bool, true, false, cond, List, [], ◌∷◌, Option, Some}
+use Rattle.std.proofs.Common.{None, length, get_or, map, refl, sym, ap, ◌∙◌, arith, ⊎_elim, zero-add}
 use Rattle.std.specs.Prelude.{◌&&◌, nat_le, IfSome, option_map}
 use Rattle.std.specs.List.{range_with_len}
 use Rattle.std.proofs.lemmas.Bool.{cases_lt, cases_Bool, lt-ltb, le-ltb, leb-true, eqb-true, eq-eqb, and_from, and_parts, false≢true}

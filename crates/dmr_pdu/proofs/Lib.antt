@@ -1,3 +1,4 @@
+pub mod ListLaws
 pub mod EqualityLemmas
 pub mod FunctionLemmas
 pub mod LayoutLemmas

@@ -1,5 +1,6 @@
 -- The rows after octet 1 in one number of 64 bits, and that number in octets 2 to 9.
-use Rattle.std.proofs.Common.{◌≡◌, ◌==◌, ℕ, zero, suc, ◌+◌, ◌-◌, ◌*◌, ◌/◌, ◌%◌, ◌^◌, ◌<◌, ◌≤◌, true, List, [], ◌∷◌, ◌++◌, drop, length, subst, take-append-drop, get_or, refl, sym, ap, ◌∙◌, arith, ⊎_elim}
+use Rattle.std.proofs.Common.{◌≡◌, ◌==◌, ℕ, zero, suc, ◌+◌, ◌-◌, ◌*◌, ◌/◌, ◌%◌, ◌^◌, ◌<◌, ◌≤◌, true, List, [], ◌∷◌, ◌++◌, drop, length}
+use Rattle.std.proofs.Common.{subst, take-append-drop, get_or, refl, sym, ap, ◌∙◌, arith, ⊎_elim}
 use Rattle.std.specs.Prelude.{bit_or}
 use Rattle.std.specs.Int.{w64, bit_at, to_be_bytes, from_be_bytes}
 use Rattle.std.proofs.Math.Nat.{mod-eq_of_lt}

@@ -1,5 +1,6 @@
 -- The blanks after the entries of a list of bounded length.
-use Rattle.std.proofs.Common.{◌≡◌, ℕ, ◌+◌, ◌-◌, ◌<◌, ◌≤◌, List, ◌∷◌, length, drop, replicate, slice_set, arith, refl, zero, suc, sym, ◌∙◌, ap}
+use Rattle.std.proofs.Common.{◌≡◌, ℕ, ◌+◌, ◌-◌, ◌<◌, ◌≤◌, List, ◌∷◌, length, drop, replicate, slice_set, arith, refl, zero, suc, sym, ◌∙◌}
+use Rattle.std.proofs.Common.{ap}
 use Rattle.std.proofs.lemmas.List.{drop-set, drop_more}
 
 drop_one-replicate : {X : Type 0} (n : ℕ) (blank : X) → drop 1 (replicate n blank) ≡ replicate (n - 1) blank

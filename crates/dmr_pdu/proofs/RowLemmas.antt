@@ -1,23 +1,16 @@
 -- Rows that follow one another determine ten octets.
-use Rattle.std.proofs.Common.{◌≡◌, ◌==◌, ℕ, ◌+◌, ◌-◌, ◌<◌, ◌≤◌, Bool, true, false, List, [], ◌∷◌, refl, sym, ap, ◌∙◌, arith, ⊎_elim}
+use Rattle.std.proofs.Common.{◌≡◌, ◌==◌, ℕ, ◌+◌, ◌-◌, ◌<◌, ◌≤◌, Bool, true, List, [], ◌∷◌, sym, ap, ◌∙◌, arith, ⊎_elim}
 use Rattle.std.specs.Prelude.{◌&&◌, nat_le}
-use Rattle.std.proofs.lemmas.Bool.{cases_lt, eqb-true, leb-true, false≢true}
+use Rattle.std.proofs.lemmas.Bool.{cases_lt, eqb-true, leb-true}
 use Rattle.dmr_bits.specs.Bits.{octet_bit, IsOctets}
 use Rattle.dmr_bits.proofs.Laws.{bits_value-injective, octets-same}
 use Rattle.dmr_pdu.specs.Layout.{Row, Holds}
+use Rattle.dmr_pdu.proofs.ListLaws.{left, right}
 
 -- the places follow one another, from a bit on to bit 80
 abbrev pub fills : ℕ → List Row → Bool
 fills first [] = first == 80
 fills first (r ∷ rows) = (r.0.first == first) && (nat_le r.0.width 32 && fills (first + r.0.width) rows)
-
-pub left : (a b : Bool) → (a && b) ≡ true → a ≡ true
-left true b e = refl
-left false b e = e
-
-pub right : (a b : Bool) → (a && b) ≡ true → b ≡ true
-right true b e = e
-right false b e = absurd (false≢true e)
 
 -- the facts about the first of rows that follow one another
 pub record Follows (first : ℕ) (r : Row) (rows : List Row) : Type 0 where

@@ -1,15 +1,12 @@
 -- One more carrier that differs from those before it.
-use Rattle.std.proofs.Common.{◌≡◌, ℕ, false, ◌==◌, List, [], ◌∷◌, ◌++◌, map, refl, sym, subst}
-use Rattle.std.proofs.lemmas.Bool.{or_parts, or_from, eqb-false, ne_eqb}
+use Rattle.std.proofs.Common.{◌≡◌, ℕ, false, ◌==◌, List, [], ◌∷◌, ◌++◌, map, refl, subst}
+use Rattle.std.proofs.lemmas.Bool.{or_parts, or_from}
 use Rattle.std.specs.List.{list_any}
 use Rattle.dmr_plan.specs.declared.carriers.CarrierRow.{CarrierRow}
 use Rattle.dmr_plan.specs.Lists.{has_repeat}
 use Rattle.dmr_plan.specs.Carriers.{has_port_in}
 use Rattle.dmr_plan.specs.Kept.{IsNewRow, AreApart}
-
--- a test of equality that fails also fails with its sides exchanged
-other_way : (m n : ℕ) → (m == n) ≡ false → (n == m) ≡ false
-other_way m n h = ne_eqb n m (λ e. eqb-false m n h (sym e))
+use Rattle.dmr_pdu.proofs.ListLaws.{flipped}
 
 -- no element has the number, and the new one does not either
 any-push : {A : Type 0} (f : A → ℕ) (n : ℕ) (xs : List A) (x : A) → list_any (λ m. m == n) (map f xs) ≡ false → (f x == n) ≡ false
@@ -26,7 +23,7 @@ has_repeat-push f [] x h e = refl
 has_repeat-push f (y ∷ ys) x h e =
     let p = or_parts _ _ h in
     let q = or_parts _ _ e in
-    or_from _ _ (any-push f (f y) ys x p.0 (other_way (f y) (f x) q.0)) (has_repeat-push f ys x p.1 q.1)
+    or_from _ _ (any-push f (f y) ys x p.0 (flipped (f y) (f x) q.0)) (has_repeat-push f ys x p.1 q.1)
 
 -- no carrier has the port, and the new one does not either
 port-push : (n : ℕ) (rows : List CarrierRow) (row : CarrierRow) → has_port_in rows n ≡ false → (row.port == n) ≡ false

@@ -3,8 +3,9 @@ use Rattle.std.proofs.Common.{arith, ◌≡◌, ◌≢◌, ℕ, ◌*◌, ◌^◌
 use Rattle.std.specs.Prelude.{◌==◌}
 use Rattle.std.specs.Int.{trailing_zeros, bit_not}
 use Rattle.std.proofs.lemmas.Nat.Bits.{bit_at_set_same, bit_at_set_other, bit_at_clear_same, bit_at_clear_other, bit_at-trailing_zeros}
-use Rattle.dmr_pool.specs.Slots.{place, slot_at}
+use Rattle.dmr_pool.specs.Slots.{slot_at}
 use Rattle.dmr_pool.specs.Marks.{has_bit, IsLowestBit, IsSet}
+use Rattle.dmr_pdu.proofs.ListLaws.{place-slot_at}
 
 -- the bit of a place, as a power of two
 pub bit_set : (bits k at : ℕ) (is_in : Bool) → k ≡ at → k < 32 → is_in ≡ true → IsSet bits (bit_or bits (1 * 2 ^ k % 2 ^ 32)) at is_in
@@ -21,10 +22,6 @@ bit_cleared bits k at is_in same within clear = record {
       (ap (λ n. n == 1) (bit_at_clear_same w32 bits k within) ∙ sym clear);
   others = λ n below apart. ap (λ b. b == 1) (bit_at_clear_other w32 bits k within n below (λ e. apart (e ∙ same)));
 }
-
--- a place is that of the slot there
-pub place-slot_at : (n : ℕ) → place (slot_at n) ≡ n
-place-slot_at n = omega arith
 
 -- the lowest bit that is set
 pub lowest_set : (bits : ℕ) → bits < 2 ^ 32 → bits ≢ 0 → IsLowestBit bits (slot_at (trailing_zeros w32 bits))

@@ -14,9 +14,10 @@ use Rattle.dmr_pool.specs.Slots.{Slots, IsSlot, place, slot_at, box, is_up, is_s
 use Rattle.dmr_pool.specs.Free.{is_control, is_empty, is_free, is_free_by, is_granted, HasNoFreeSlot, IsLowestFree}
 use Rattle.dmr_pool.specs.Marks.{AreMarked, HasNoBit, IsLowestBit, IsSet, has_bit}
 use Rattle.dmr_pool.specs.Grants.{AreOutboxes, grants_of, is_this, slot_counted}
-use Rattle.dmr_pool.proofs.BitLemmas.{place-slot_at}
 use Rattle.dmr_pool.proofs.FreeLemmas.{slot_at-place}
 use Rattle.dmr_pool.proofs.GrantLemmas.{granted_count, grants_queued, grants_sent, same_anywhere, this_at, this_itself}
+use Rattle.std.proofs.Math.Bool.{and-false}
+use Rattle.dmr_pdu.proofs.ListLaws.{place-slot_at}
 
 -- the slot of the lowest bit is the lowest that is free
 pub marked_lowest : (bits : ℕ) (slots : Slots) (found : Option Slot) → AreMarked bits slots
@@ -72,24 +73,20 @@ two_set before between after old new a b u v is_a is_b marked first second told_
         second.others k below (eqb-false k (place b) e) ∙ first.others k below (eqb-false k (place a) d) ∙ marked k below
         ∙ others k below (eqb-false k (place a) d) (eqb-false k (place b) e)
 
-and_no : (a : Bool) → (a && false) ≡ false
-and_no true = refl
-and_no false = refl
-
 -- a slot is not free in each of these cases
 pub down_not_free : (lists : ListSection) (up : List Bool) (outboxes : List (List Pdu)) (holds : Slot → Bool) (slot : Slot)
     → is_up up slot.carrier ≡ false → is_free_by lists up outboxes holds slot ≡ false
-down_not_free lists up outboxes holds slot h = rw (h, and_no (has_number_in lists.carriers slot.carrier)) refl
+down_not_free lists up outboxes holds slot h = rw (h, and-false (has_number_in lists.carriers slot.carrier)) refl
 
 pub held_not_free : (lists : ListSection) (up : List Bool) (outboxes : List (List Pdu)) (holds : Slot → Bool) (slot : Slot)
     → holds slot ≡ true → is_free_by lists up outboxes holds slot ≡ false
 held_not_free lists up outboxes holds slot h =
-    rw (h, and_no (has_number_in lists.carriers slot.carrier && is_up up slot.carrier && not (is_control lists slot))) refl
+    rw (h, and-false (has_number_in lists.carriers slot.carrier && is_up up slot.carrier && not (is_control lists slot))) refl
 
 pub waiting_not_free : (lists : ListSection) (up : List Bool) (outboxes : List (List Pdu)) (holds : Slot → Bool) (slot : Slot)
     → is_empty (box outboxes slot) ≡ false → is_free_by lists up outboxes holds slot ≡ false
 waiting_not_free lists up outboxes holds slot h =
-    rw (h, and_no (has_number_in lists.carriers slot.carrier && is_up up slot.carrier && not (is_control lists slot) && not (holds slot)))
+    rw (h, and-false (has_number_in lists.carriers slot.carrier && is_up up slot.carrier && not (is_control lists slot) && not (holds slot)))
     refl
 
 pub granted_not_free : (lists : ListSection) (up : List Bool) (outboxes : List (List Pdu)) (holds : Slot → Bool) (slot : Slot)
@@ -97,7 +94,7 @@ pub granted_not_free : (lists : ListSection) (up : List Bool) (outboxes : List (
 granted_not_free lists up outboxes holds slot h =
     rw (
       h,
-      and_no (has_number_in lists.carriers slot.carrier && is_up up slot.carrier && not (is_control lists slot) && not (holds slot)
+      and-false (has_number_in lists.carriers slot.carrier && is_up up slot.carrier && not (is_control lists slot) && not (holds slot)
           && is_empty (box outboxes slot)),
     ) refl
 

@@ -1,5 +1,6 @@
 -- The first octets of a connection.
-use Rattle.std.proofs.Common.{◌≡◌, ◌≤◌, ◌<◌, ◌↔◌, ℕ, ◌-◌, zero, suc, List, [], ◌∷◌, ◌++◌, length, take, min, ◌==◌, ◌&&◌, Option, Some, None, is_some, IsSome, IsTrue, IfSome, Result, Ok, Err, IsOk, OnOk, inl, inr, arith, ap, ◌∙◌, sym, refl}
+use Rattle.std.proofs.Common.{◌≡◌, ◌≤◌, ◌<◌, ◌↔◌, ℕ, ◌-◌, zero, suc, List, [], ◌∷◌, ◌++◌, length, take, min, ◌==◌, ◌&&◌, Option, Some, None}
+use Rattle.std.proofs.Common.{is_some, IsSome, IsTrue, IfSome, Result, Ok, Err, IsOk, OnOk, inl, inr, arith, ap, ◌∙◌, sym, refl}
 use Rattle.std.proofs.lemmas.List.{take_min}
 use Rattle.std.proofs.lemmas.Bool.{and_from, and_parts, both_ways, cases_Bool, cond-false, eq-eqb, eqb-true}
 use Rattle.dmr_frames.specs.declared.frame.FrameIn.{FrameIn}

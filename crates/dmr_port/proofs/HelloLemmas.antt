@@ -1,5 +1,6 @@
 -- Whether octets are a HELLO is decided, and matters only while a HELLO is expected.
-use Rattle.std.proofs.Common.{◌≡◌, ◌<◌, ◌↔◌, ◌⊎◌, ◌+◌, ◌*◌, ◌/◌, ◌%◌, ℕ, Bool, true, false, not, List, [], ◌∷◌, ◌==◌, ◌&&◌, take, nat_lt, Option, Some, None, is_some, IsTrue, arith, ap, ◌∙◌, refl, inl, inr}
+use Rattle.std.proofs.Common.{◌≡◌, ◌<◌, ◌↔◌, ◌⊎◌, ◌+◌, ◌*◌, ◌/◌, ◌%◌, ℕ, Bool, true, false, not, List, [], ◌∷◌, ◌==◌, ◌&&◌, take, nat_lt}
+use Rattle.std.proofs.Common.{Option, Some, None, is_some, IsTrue, arith, ap, ◌∙◌, refl, inl, inr}
 use Rattle.std.proofs.lemmas.Bool.{and_from, and_parts, eq-eqb, eqb-true, false≢true, lt-ltb, ltb-true}
 use Rattle.dmr_port.specs.declared.patience.Patience.{Patience}
 use Rattle.dmr_port.specs.declared.served.Served.{Served}

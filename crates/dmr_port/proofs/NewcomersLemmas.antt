@@ -1,5 +1,6 @@
 -- What is known of newcomers, step by step, and the octets that they have shown.
-use Rattle.std.proofs.Common.{◌≡◌, ◌↔◌, ℕ, ◌+◌, zero, suc, Bool, true, false, ◌||◌, List, [], ◌∷◌, ◌++◌, length, take, remove, Option, Some, None, is_some, IsTrue, IfSome, cond, arith, ap, subst, ◌∙◌, sym, refl, inl, inr}
+use Rattle.std.proofs.Common.{◌≡◌, ◌↔◌, ℕ, ◌+◌, zero, suc, Bool, true, false, ◌||◌, List, [], ◌∷◌, ◌++◌, length, take, remove, Option, Some}
+use Rattle.std.proofs.Common.{None, is_some, IsTrue, IfSome, cond, arith, ap, subst, ◌∙◌, sym, refl, inl, inr}
 use Rattle.std.specs.Prelude.{slice_index_or, slice_set, option_map}
 use Rattle.std.specs.List.{AllZip, list_any, position_from}
 use Rattle.std.proofs.lemmas.Bool.{false≢true, or_cases, or_left, or_right}

@@ -1,5 +1,6 @@
 -- A read, step by step: the connection before it and after it.
-use Rattle.std.proofs.Common.{◌≡◌, ◌≤◌, ◌⊎◌, ℕ, Bool, true, false, not, ◌||◌, List, [], ◌∷◌, ◌++◌, length, take, Option, Some, arith, ap, subst, ◌∙◌, sym, refl, inl, inr}
+use Rattle.std.proofs.Common.{◌≡◌, ◌≤◌, ◌⊎◌, ℕ, Bool, true, false, not, ◌||◌, List, [], ◌∷◌, ◌++◌, length, take, Option, Some, arith, ap}
+use Rattle.std.proofs.Common.{subst, ◌∙◌, sym, refl, inl, inr}
 use Rattle.std.proofs.lemmas.List.{take-append-le}
 use Rattle.std.proofs.lemmas.Bool.{or_parts, not-false}
 use Rattle.dmr_wire.specs.declared.wire.Got.{Got}
@@ -16,8 +17,8 @@ use Rattle.dmr_port.specs.PortState.{Connection, HasReadFrom, HasReadNothing, Ha
 use Rattle.dmr_port.specs.Record.{Reads, IsReadFrom}
 use Rattle.dmr_port.specs.Served.{HearsOctets, after_read}
 use Rattle.dmr_port.specs.Unsent.{PassesOctets, ReadsAfterSending}
-use Rattle.dmr_port.proofs.RecordLemmas.{reports_none}
 use Rattle.dmr_port.proofs.UnsentLemmas.{passes_nothing}
+use Rattle.dmr_wire.proofs.ReportLaws.{reports_none}
 
 -- nothing happened
 pub read_nothing : (c : Connection) → HasReadNothing c c

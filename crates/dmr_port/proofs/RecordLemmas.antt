@@ -1,5 +1,6 @@
 -- The record of a port and the log of its sockets, answer by answer: each connection's octets agree.
-use Rattle.std.proofs.Common.{◌≡◌, ◌≢◌, ℕ, zero, suc, Bool, true, false, not, ◌||◌, List, [], ◌∷◌, ◌++◌, Option, Some, None, take, refl, sym, ap, subst, ◌∙◌, inl, inr, append_assoc}
+use Rattle.std.proofs.Common.{◌≡◌, ◌≢◌, ℕ, zero, suc, Bool, true, false, not, ◌||◌, List, [], ◌∷◌, ◌++◌, Option, Some, None, take, refl}
+use Rattle.std.proofs.Common.{sym, ap, subst, ◌∙◌, inl, inr, append_assoc}
 use Rattle.std.specs.Prelude.{nat_eq, option_map}
 use Rattle.std.specs.List.{list_any, starts_with}
 use Rattle.std.proofs.lemmas.List.{append-nil}
@@ -10,26 +11,16 @@ use Rattle.dmr_wire.specs.declared.wire.Put.{Put}
 use Rattle.dmr_wire.specs.declared.wire.Put.TheVariants as put
 use Rattle.dmr_wire.specs.declared.port.Waited.{Waited}
 use Rattle.dmr_wire.specs.declared.port.Waited.TheVariants as wait
-use Rattle.dmr_wire.specs.Answers.{Answer, Opened, Came, InputEnded, ReadInterrupted, ReadBlocked, ReadFailed, Reports, of_read, of_wait, of_write}
+use Rattle.dmr_wire.specs.Answers.{Answer, Opened, Came, InputEnded, ReadInterrupted, ReadBlocked, ReadFailed, Reports, of_read, of_wait}
+use Rattle.dmr_wire.specs.Answers.{of_write}
 use Rattle.dmr_port.specs.declared.served.Served.{Served}
 use Rattle.dmr_port.specs.FirstOctets.{begins_http, http_methods}
 use Rattle.dmr_port.specs.PortState.{HasBegun, connection_of, first_if_served}
-use Rattle.dmr_port.specs.Record.{Traffic, with_octets, traffic_then, traffic_after, traffic_of, first_after, Carries, WereGiven, AreAlike, Agrees}
+use Rattle.dmr_port.specs.Record.{Traffic, with_octets, traffic_then, traffic_after, traffic_of, first_after, Carries, WereGiven, AreAlike}
+use Rattle.dmr_port.specs.Record.{Agrees}
 use Rattle.dmr_port.specs.Sockets.{taken_by}
 use Rattle.dmr_port.specs.Unsent.{PassesOctets, ReadsAfterSending}
-
--- no answer
-pub reports_none : (reported : Option (List Answer)) → Reports reported [] reported
-reports_none reported = record { follows = λ whole e. (whole, e, sym (append-nil whole)) }
-
--- answers, and then more
-pub reports_more : (a b c : Option (List Answer)) (xs ys : List Answer) → Reports a xs b → Reports b ys c → Reports a (xs ++ ys) c
-reports_more a b c xs ys first second = record {
-  follows = λ whole e.
-      let later = second.follows whole e in
-      let before = first.follows later.0 later.1 in
-      (before.0, before.1, later.2 ∙ ap (λ (r : List Answer). r ++ ys) before.2 ∙ append_assoc before.0 xs ys);
-}
+use Rattle.dmr_wire.proofs.ReportLaws.{reports_none, reports_more}
 
 -- no octets
 pub with_none : (traffic : List Traffic) → with_octets [] [] traffic ≡ traffic

@@ -7,7 +7,8 @@ use Rattle.dmr_port.specs.declared.cause.CloseCause.{CloseCause}
 use Rattle.dmr_port.specs.declared.served.Served.{Served}
 use Rattle.dmr_port.specs.declared.sockets.Ready.{Ready}
 use Rattle.dmr_port.specs.Newcomers.{IsClaimedAs}
-use Rattle.dmr_port.specs.PortState.{HasWaited, HasWaitedFor, HasWaitedIf, IsFinding, IsLater, PortState, connection_of, keeps_octets, waited_by}
+use Rattle.dmr_port.specs.PortState.{HasWaited, HasWaitedFor, HasWaitedIf, IsFinding, IsLater, PortState, connection_of, keeps_octets}
+use Rattle.dmr_port.specs.PortState.{waited_by}
 use Rattle.dmr_port.specs.Served.{after_wait, cause_of_served}
 use Rattle.dmr_port.specs.Sockets.{Found, found_after}
 

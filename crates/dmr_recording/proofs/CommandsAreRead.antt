@@ -1,5 +1,6 @@
 -- Each command that a line can mean is read from its words, which fit in a line.
-use Rattle.std.proofs.Common.{◌≡◌, ℕ, ◌*◌, ◌<◌, ◌≤◌, ◌^◌, true, List, [], ◌∷◌, ◌++◌, length, get_or, map, Some, decimal, filter, refl, ap, ◌∙◌, append-nil, length-append, option_map, arith, ne_eqb}
+use Rattle.std.proofs.Common.{◌≡◌, ℕ, ◌*◌, ◌<◌, ◌≤◌, ◌^◌, true, List, [], ◌∷◌, ◌++◌, length, get_or, map, Some, decimal, filter, refl, ap}
+use Rattle.std.proofs.Common.{◌∙◌, append-nil, length-append, option_map, arith, ne_eqb}
 use Rattle.std.specs.Prelude.{◌==◌, nat_le, nat_lt}
 use Rattle.std.specs.List.{flat_map, list_all, slice_split}
 use Rattle.std.specs.Option.{option_and_then}
@@ -7,7 +8,8 @@ use Rattle.std.proofs.lemmas.Bool.{and_parts, leb-true}
 use Rattle.std.proofs.lemmas.Fmt.{decimal_nonempty, length-decimal-le}
 use Rattle.dmr_core.specs.declared.command.Argument.{Argument}
 use Rattle.dmr_core.specs.declared.command.Command.{Command}
-use Rattle.dmr_core.specs.CommandWords.{AreNumbersOf, IsSaid, command_from, command_text, kind_of, number_text, numbers_of, range_of, row_of}
+use Rattle.dmr_core.specs.CommandWords.{AreNumbersOf, IsSaid, command_from, command_text, kind_of, number_text, numbers_of, range_of}
+use Rattle.dmr_core.specs.CommandWords.{row_of}
 use Rattle.dmr_core.proofs.CommandLaws.{is_letter, most_of, of_words}
 use Rattle.dmr_console.specs.Commands.{command_of, command_of_kind, command_of_words, numbers_in}
 use Rattle.dmr_console.specs.Words.{is_word, words_of_line}

@@ -1,5 +1,6 @@
 -- The frames of a recording, on the connections of a carrier.
-use Rattle.std.proofs.Common.{◌≡◌, ℕ, ◌<◌, Bool, true, false, ◌&&◌, ◌||◌, if◌then◌else◌, List, [], ◌∷◌, ◌++◌, length, drop, None, refl, sym, ap, ◌∙◌, arith, eq-eqb}
+use Rattle.std.proofs.Common.{◌≡◌, ℕ, ◌<◌, Bool, true, false, ◌&&◌, ◌||◌, if◌then◌else◌, List, [], ◌∷◌, ◌++◌, length, drop, None, refl, sym}
+use Rattle.std.proofs.Common.{ap, ◌∙◌, arith, eq-eqb}
 use Rattle.std.proofs.lemmas.List.{drop_at}
 use Rattle.std.proofs.lemmas.List.Sums.{fold-append}
 use Rattle.dmr_frames.specs.declared.frame.FrameIn.{FrameIn}
@@ -16,12 +17,14 @@ use Rattle.dmr_link.specs.declared.connection.Connection.{Connection}
 use Rattle.dmr_link.specs.declared.connection.Connection.TheVariants.{Closed, Running}
 use Rattle.dmr_link.specs.Input.{Piece}
 use Rattle.dmr_link.specs.Inputs.{piece_produces, piece_leaves}
-use Rattle.dmr_link.specs.Meaning.{event_of, is_accepted, is_last, is_repeat, newest_after, is_stream_fault, left_by_frames, left_by_octets, meaning_of_frames, meaning_of_octets, no_octets, refusal_of_first, while_up}
+use Rattle.dmr_link.specs.Meaning.{event_of, is_accepted, is_last, is_repeat, newest_after, is_stream_fault, left_by_octets}
+use Rattle.dmr_link.specs.Meaning.{meaning_of_frames, meaning_of_octets, no_octets, refusal_of_first, while_up}
 use Rattle.dmr_link.specs.Notices.{list_of_notice}
 use Rattle.dmr_link.specs.Notices.{Notice, Accepted, Happened}
 use Rattle.dmr_link.specs.Records.{Record, left_by_records, meaning_of_records, records_after}
 use Rattle.dmr_link.specs.Steps.{connection_after_octet, connection_after_octets, new_connection, notices_of_octets}
 use Rattle.dmr_recording.specs.Records.{quiet_connection}
+use Rattle.dmr_link.proofs.LinkLaws.{octets-leave}
 
 -- the laws of frames and of connections
 pub record ConnectionLaws : Type 0 where
@@ -44,11 +47,6 @@ meant_by : (who : CarrierIdentity) (octets : List ℕ) (frames : List FrameIn) (
     (is_stream_fault rest || false)
 unfolding meaning_of_octets
 meant_by who octets frames rest f r = (λ i. meaning_of_frames who (f i) (is_stream_fault (r i) || false))
-
-left_by : (who : CarrierIdentity) (octets : List ℕ) (frames : List FrameIn) (rest : Rest) → frames_from (no_octets who) octets ≡ frames →
-    rest_after_octets (no_octets who) octets ≡ rest → left_by_octets who octets ≡ left_by_frames who frames rest
-unfolding left_by_octets
-left_by who octets frames rest f r = (λ i. left_by_frames who (f i) (r i))
 
 -- a frame after which a carrier stays up, and which is not numbered
 pub record IsQuiet (f : FrameIn) : Type 0 where
@@ -93,7 +91,7 @@ module _ (laws : ConnectionLaws) (who : CarrierIdentity) (small : who.carrier < 
   pub hello_leaves : connection_after_octets who (new_connection who) (spelling hello) ≡ quiet_connection
   hello_leaves =
       sym (laws.left who (spelling hello))
-      ∙ left_by who (spelling hello) (hello ∷ []) first_rest first.0 first.1
+      ∙ octets-leave who (spelling hello) (hello ∷ []) first_rest first.0 first.1
       ∙ ap (λ (b : Bool). if b then quiet_connection else Closed) accepted
 
   -- ---- another frame
@@ -142,7 +140,7 @@ module _ (laws : ConnectionLaws) (who : CarrierIdentity) (small : who.carrier < 
         ap (λ (k : Connection). connection_after_octets who k (spelling f)) (sym hello_leaves)
         ∙ sym (fold-append (connection_after_octet who) (new_connection who) (spelling hello) (spelling f))
         ∙ sym (laws.left who both)
-        ∙ left_by who both (hello ∷ f ∷ []) first_rest both_frames both_rest
+        ∙ octets-leave who both (hello ∷ f ∷ []) first_rest both_frames both_rest
         ∙ (λ i. if accepted i then (if quiet.stays i then Closed else Running first_rest (quiet.unnumbered i)) else Closed)
 
 -- ---- records

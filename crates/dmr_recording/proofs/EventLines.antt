@@ -1,5 +1,6 @@
 -- The inputs of an event have lines.
-use Rattle.std.proofs.Common.{◌≡◌, ℕ, zero, suc, ◌+◌, ◌/◌, ◌%◌, ◌<◌, ◌≤◌, Bool, true, false, if◌then◌else◌, List, [], ◌∷◌, ◌++◌, length, Option, None, refl, ap, ◌∙◌, arith, ltb-true, le-ltb, take, ◌-◌}
+use Rattle.std.proofs.Common.{◌≡◌, ℕ, zero, suc, ◌+◌, ◌/◌, ◌%◌, ◌<◌, ◌≤◌, Bool, true, false, if◌then◌else◌, List, [], ◌∷◌, ◌++◌, length}
+use Rattle.std.proofs.Common.{Option, None, refl, ap, ◌∙◌, arith, ltb-true, le-ltb, take, ◌-◌}
 use Rattle.std.specs.Prelude.{◌==◌, nat_lt}
 use Rattle.hex.specs.Hex.{IsBytes}
 use Rattle.dmr_bits.specs.Words.{word_octets}

@@ -1,5 +1,7 @@
 -- The inputs of an event mean it, and leave the carriers that are up after it.
-use Rattle.std.proofs.Common.{◌≡◌, ◌≢◌, ℕ, zero, suc, ◌<◌, Bool, true, false, if◌then◌else◌, List, [], ◌∷◌, ◌++◌, length, drop, Option, Some, None, is_some, replicate, option_map, eqb, refl, sym, ap, subst, ◌∙◌, append_assoc, append-nil, arith, eq-eqb, eqb-true, get_or-set_same, get_or-set_other, All}
+use Rattle.std.proofs.Common.{◌≡◌, ◌≢◌, ℕ, zero, suc, ◌<◌, Bool, true, false, if◌then◌else◌, List, [], ◌∷◌, ◌++◌, length, drop, Option}
+use Rattle.std.proofs.Common.{Some, None, is_some, replicate, option_map, eqb, refl, sym, ap, subst, ◌∙◌, append_assoc, append-nil, arith}
+use Rattle.std.proofs.Common.{eq-eqb, eqb-true, get_or-set_same, get_or-set_other, All}
 use Rattle.std.specs.Prelude.{slice_set, flat_map}
 use Rattle.std.specs.Option.{option_map_or}
 use Rattle.std.proofs.lemmas.Bool.{eqb-false}
@@ -26,13 +28,15 @@ use Rattle.dmr_link.specs.Input.{Input, Piece, At, Opening, Octets, Cutting, Say
 use Rattle.dmr_link.specs.Inputs.{piece_produces, piece_leaves}
 use Rattle.dmr_link.specs.Meaning.{event_of, notices_at_end}
 use Rattle.dmr_link.specs.Notices.{Notice, Accepted, Happened}
-use Rattle.dmr_link.specs.Records.{Past, Record, added_by, all_mean, all_past, input_means, input_past, left_by_records, recorded_by, records_after}
+use Rattle.dmr_link.specs.Records.{Past, Record, added_by, all_mean, all_past, input_means, input_past, left_by_records, recorded_by}
+use Rattle.dmr_link.specs.Records.{records_after}
 use Rattle.dmr_link.specs.Steps.{connection_after_octets, new_connection, notices_of_octets}
 use Rattle.dmr_recording.specs.Events.{hello_of, lpcn_of}
 use Rattle.dmr_recording.specs.Recordable.{is_up}
 use Rattle.dmr_recording.specs.Records.{IsConnectionOf, Matches, quiet_connection}
 use Rattle.dmr_recording.proofs.FreeWords.{IsFree}
-use Rattle.dmr_recording.proofs.ConnectionsAreMeant.{ConnectionLaws, IsQuiet, added, frame_leaves, frame_produces, hello_leaves, hello_produces}
+use Rattle.dmr_recording.proofs.ConnectionsAreMeant.{ConnectionLaws, IsQuiet, added, frame_leaves, frame_produces, hello_leaves}
+use Rattle.dmr_recording.proofs.ConnectionsAreMeant.{hello_produces}
 
 -- ---- a carrier of the plan
 

@@ -1,9 +1,10 @@
 -- The inputs of events in a row mean these events, and are read back from their lines.
-use Rattle.std.proofs.Common.{◌≡◌, ℕ, zero, suc, ◌+◌, Bool, true, false, if◌then◌else◌, List, [], ◌∷◌, ◌++◌, length, Option, Some, None, Ok, map, replicate, refl, sym, ap, subst, ◌∙◌, append_assoc, append-nil, arith, length-set, get_or, eqb-true}
+use Rattle.std.proofs.Common.{◌≡◌, ℕ, zero, suc, ◌+◌, Bool, true, false, if◌then◌else◌, List, [], ◌∷◌, ◌++◌, length, Option, Some, None, Ok}
+use Rattle.std.proofs.Common.{map, replicate, refl, sym, ap, subst, ◌∙◌, append_assoc, append-nil, arith, length-set, get_or, eqb-true}
 use Rattle.std.specs.Prelude.{◌==◌, nat_lt}
 use Rattle.std.proofs.lemmas.Grind.{flat_map-append}
 use Rattle.std.proofs.lemmas.List.{map-append}
-use Rattle.dmr_bptc.specs.Functions.{encoding_of, grid_with_parities, grid_word, information_grid}
+use Rattle.dmr_bptc.specs.Functions.{encoding_of, grid_with_parities, information_grid}
 use Rattle.dmr_csbk.specs.Check.{with_check}
 use Rattle.dmr_pdu.specs.Functions.{octets_of}
 use Rattle.dmr_burst.specs.Functions.{burst_of, meaning_of}
@@ -26,18 +27,16 @@ use Rattle.dmr_recording.specs.Lines.{line_of, text_of}
 use Rattle.dmr_recording.specs.Records.{IsConnectionOf, Matches, Records}
 use Rattle.dmr_recording.proofs.ConnectionsAreMeant.{ConnectionLaws, active_quiet, poll_quiet, rx_quiet}
 use Rattle.dmr_recording.proofs.EventLines.{all_lines, command_means}
-use Rattle.dmr_recording.proofs.EventsAreMeant.{AreMeant, LineLaws, frame_meant, lost_meant, say_meant, some_who, then_meant, ticks_meant, up_meant, who_is}
+use Rattle.dmr_recording.proofs.EventsAreMeant.{AreMeant, LineLaws, frame_meant, lost_meant, say_meant, some_who, then_meant, ticks_meant}
+use Rattle.dmr_recording.proofs.EventsAreMeant.{up_meant, who_is}
 use Rattle.dmr_recording.proofs.CommandsAreRead.{command_free}
 use Rattle.dmr_recording.proofs.LinesAreRead.{text_read}
 use Rattle.dmr_recording.proofs.NoiseMeansNothing.{CodeLaws, noise_means_nothing}
-
-grid_length : (grid : ℕ → ℕ → Bool) → length (grid_word grid) ≡ 196
-unfolding grid_word
-grid_length grid = refl
+use Rattle.dmr_bptc.proofs.Laws.{length-grid_word}
 
 encoding_length : (octets : List ℕ) → length (encoding_of octets) ≡ 196
 unfolding encoding_of
-encoding_length octets = grid_length (grid_with_parities (information_grid octets))
+encoding_length octets = length-grid_word (grid_with_parities (information_grid octets))
 
 burst_length : (pdu : Pdu) → length (burst_of pdu) ≡ 196
 unfolding burst_of

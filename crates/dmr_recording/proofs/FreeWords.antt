@@ -1,17 +1,20 @@
 -- Octets without some octet, and the parts of octets between these.
-use Rattle.std.proofs.Common.{◌≡◌, ℕ, zero, suc, ◌+◌, ◌%◌, ◌^◌, ◌<◌, ◌≤◌, Bool, true, false, not, ◌&&◌, List, [], ◌∷◌, ◌++◌, length, get_or, Some, eqb, decimal, refl, ap, ◌∙◌, arith, ne_eqb, eq-eqb, lt-ltb, le-leb}
+use Rattle.std.proofs.Common.{◌≡◌, ℕ, zero, suc, ◌+◌, ◌%◌, ◌^◌, ◌<◌, ◌≤◌, Bool, true, false, not, ◌&&◌, List, [], ◌∷◌, ◌++◌, length, get_or}
+use Rattle.std.proofs.Common.{Some, eqb, decimal, refl, ap, ◌∙◌, arith, ne_eqb, eq-eqb, lt-ltb, le-leb}
 use Rattle.std.specs.Prelude.{slice_index, ◌==◌, nat_lt}
 use Rattle.std.specs.List.{slice_split, AllPass, onto_first}
 use Rattle.std.specs.Str.{all_ascii_digits}
 use Rattle.std.specs.Str.Parse.{digits_value}
 use Rattle.std.proofs.lemmas.Bool.{and_parts}
-use Rattle.std.proofs.lemmas.Fmt.{decimal_is_IsNumeral, decimal_by_steps, decimal_digit, decimal_nonempty, digits_decimal, first_decimal, length-decimal-le}
+use Rattle.std.proofs.lemmas.Fmt.{decimal_is_IsNumeral, decimal_by_steps, decimal_digit, decimal_nonempty, digits_decimal, first_decimal}
+use Rattle.std.proofs.lemmas.Fmt.{length-decimal-le}
 use Rattle.std.proofs.lemmas.List.Splits.{slice_split-cons_yes, slice_split-cons_no}
 use Rattle.std.proofs.lemmas.Str.Parse.{numerals_by_value, tells_all_ascii_digits}
 use Rattle.hex.specs.Hex.{encode_upper, is_hex_digit, IsBytes}
 use Rattle.hex.proofs.HexLemmas.{decode_of-encode_upper, decode_of-ok}
 use Rattle.dmr_console.specs.Words.{short_number_within}
 use Rattle.dmr_replay.specs.Script.{number_of_word, words_of_script_line}
+use Rattle.std.proofs.Math.Bool.{and-false}
 
 -- no element is this octet
 abbrev pub IsFree : ℕ → List ℕ → Type 0
@@ -60,16 +63,12 @@ pub decimal_free : (c : ℕ) → c < 48 → (n : ℕ) → n < 2 ^ 64 → IsFree 
 decimal_free c small = decimal_by_steps (λ n ds. IsFree c ds) (λ n l. (differs c n small, tt))
     (λ n ds l h. free-append c ds ((48 + n % 10) ∷ []) h (differs c (n % 10) small, tt))
 
-false_after : (b : Bool) → (b && false) ≡ false
-false_after true = refl
-false_after false = refl
-
 leads : (n : ℕ) → n < 2 ^ 64 → (nat_lt 1 (length (decimal n)) && (slice_index (decimal n) 0 == 48)) ≡ false
 leads zero fits = ap (λ (ds : List ℕ). nat_lt 1 (length ds) && (slice_index ds 0 == 48)) (decimal_digit 0 (omega arith))
 leads (suc m) fits =
     let first : 48 < get_or (decimal (suc m)) 0 0 = first_decimal (suc m) (omega arith) fits in
     ap (λ (b : Bool). nat_lt 1 (length (decimal (suc m))) && b) (ne_eqb (get_or (decimal (suc m)) 0 0) 48 (λ e. omega (arith, e, first)))
-    ∙ false_after (nat_lt 1 (length (decimal (suc m))))
+    ∙ and-false (nat_lt 1 (length (decimal (suc m))))
 
 module _ (least most n : ℕ) (low : least ≤ n) (high : n ≤ most) (small : most < 100000000) where
   fits : n < 2 ^ 64

@@ -1,13 +1,16 @@
 -- Lines are read back as the inputs that they say, also before other lines.
-use Rattle.std.proofs.Common.{◌≡◌, ℕ, ◌+◌, ◌<◌, ◌≤◌, Bool, true, false, not, ◌&&◌, cond, List, [], ◌∷◌, ◌++◌, Option, Some, None, is_none, Result, Ok, codes, decimal, refl, ap, ◌∙◌, append_assoc, option_map, arith, find, filter_map}
+use Rattle.std.proofs.Common.{◌≡◌, ℕ, ◌+◌, ◌<◌, ◌≤◌, Bool, true, false, not, ◌&&◌, cond, List, [], ◌∷◌, ◌++◌, Option, Some, None, is_none}
+use Rattle.std.proofs.Common.{Result, Ok, codes, decimal, refl, ap, ◌∙◌, append_assoc, option_map, arith, find, filter_map}
 use Rattle.std.specs.List.{cons_option, enumerate_from}
 use Rattle.std.specs.Result.{result_ok}
 use Rattle.hex.specs.Hex.{encode_upper, IsBytes}
 use Rattle.hex.proofs.HexLemmas.{decode_of-encode_upper}
 use Rattle.dmr_link.specs.Input.{At, Opening, Octets, Cutting, Saying, Ticking}
-use Rattle.dmr_replay.specs.Script.{RepeatedInput, once, at_least_one, octets_of_word, octets_from, input_of_words, input_of_line, is_skipped, is_faulty_line, line_input, lines_of, numbered_input, script_of, unless_fault}
+use Rattle.dmr_replay.specs.Script.{RepeatedInput, once, at_least_one, octets_of_word, octets_from, input_of_words, input_of_line}
+use Rattle.dmr_replay.specs.Script.{is_skipped, is_faulty_line, line_input, lines_of, numbered_input, script_of, unless_fault}
 use Rattle.dmr_recording.specs.Lines.{line_of, text_of}
-use Rattle.dmr_recording.proofs.FreeWords.{IsFree, free_by, free-append, split_at, decimal_free, encode_free, number_word, two_words, three_words}
+use Rattle.dmr_recording.proofs.FreeWords.{IsFree, free_by, free-append, split_at, decimal_free, encode_free, number_word, two_words}
+use Rattle.dmr_recording.proofs.FreeWords.{three_words}
 
 -- the line of an input, which is read back as the input
 pub record IsLine (g : RepeatedInput) : Type 0 where

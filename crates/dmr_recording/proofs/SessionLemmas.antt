@@ -1,5 +1,6 @@
 -- The session in which radios register, played on a site that has just started.
-use Rattle.std.proofs.Common.{◌≡◌, ◌<◌, ℕ, zero, suc, Bool, true, false, not, List, [], ◌∷◌, ◌++◌, None, Some, Option, IfSome, replicate, refl, sym, ◌∙◌, ap, arith}
+use Rattle.std.proofs.Common.{◌≡◌, ◌<◌, ℕ, zero, suc, Bool, true, false, not, List, [], ◌∷◌, ◌++◌, None, Some, Option, IfSome, replicate}
+use Rattle.std.proofs.Common.{refl, sym, ◌∙◌, ap, arith}
 use Rattle.std.specs.Prelude.{fold, filter, flat_map, reverse, length, nat_le, ◌==◌, if◌then◌else◌}
 use Rattle.std.specs.List.{list_any, slice_set}
 use Rattle.std.proofs.lemmas.Grind.{fold-append}
@@ -20,7 +21,8 @@ use Rattle.dmr_core.specs.declared.entry.Entry.{Entry}
 use Rattle.dmr_core.specs.Facts.{Facts, facts_after, no_facts, noise_by_event}
 use Rattle.dmr_core.specs.Journal.{IsLegal, answer_after_entries, events_of, unattributed_entry}
 use Rattle.dmr_core.specs.Restored.{facts_with, restored}
-use Rattle.dmr_core.specs.Rules.{ack, acts_of, acts_for_leaving, acts_for_pdu, acts_for_registration, acts_for_request, acts_for_slot, is_leaving}
+use Rattle.dmr_core.specs.Rules.{ack, acts_of, acts_for_leaving, acts_for_pdu, acts_for_registration, acts_for_request, acts_for_slot}
+use Rattle.dmr_core.specs.Rules.{is_leaving}
 use Rattle.dmr_core.specs.Replies.{reply_to}
 use Rattle.dmr_recording.specs.Restored.{options_to_stay, registers, registration_of, session_of}
 

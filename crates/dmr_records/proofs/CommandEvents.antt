@@ -3,7 +3,7 @@ use Rattle.std.proofs.Common.{◌≡◌, ℕ, Some, codes, refl}
 use Rattle.dmr_core.specs.declared.command.Command.TheVariants.{Drop, End, Move, Stay}
 use Rattle.dmr_core.specs.declared.command.CommandKind.{CommandKind}
 use Rattle.dmr_core.specs.declared.command.CommandKind.TheVariants as command
-use Rattle.dmr_keeper.specs.declared.notes.Outcome.{Outcome}
+use Rattle.dmr_keeper.specs.declared.notes.CommandOutcome.{CommandOutcome}
 use Rattle.dmr_records.specs.declared.events.EventKind.TheVariants.{Command}
 use Rattle.dmr_records.specs.declared.events.EventRow.{EventRow}
 use Rattle.dmr_records.specs.Events.{bare, event_of_command}
@@ -15,7 +15,7 @@ words : (kind_word (Command command.Drop) ≡ codes "drop_command")
     × (kind_word (Command command.Stay) ≡ codes "stay_command")
 words = (refl, refl, refl, refl)
 
-module _ (tick : ℕ) (o : Outcome) where
+module _ (tick : ℕ) (o : CommandOutcome) where
   abbrev row : CommandKind → EventRow
   row kind = record (bare tick (Command kind)) { reply = Some o }
 

@@ -1,9 +1,11 @@
 -- Queries in a transaction: they commit nothing, also if it is then rolled back.
-use Rattle.std.proofs.Common.{◌≡◌, ◌⊎◌, inl, inr, ℕ, List, [], Option, None, Some, Result, Ok, Err, IfErr, IfOk, IsTrue, cond, arith, refl, sym, ap, subst, ◌∙◌}
+use Rattle.std.proofs.Common.{◌≡◌, ◌⊎◌, inl, inr, ℕ, List, [], Option, None, Some, Result, Ok, Err, IfErr, IfOk, IsTrue, cond, arith, refl}
+use Rattle.std.proofs.Common.{sym, ap, subst, ◌∙◌}
 use Rattle.sqlite.specs.Store.{Ghosts}
 use Rattle.sqlite.specs.Order.{Row}
 use Rattle.sqlite.specs.declared.error.Error.{Error}
-use Rattle.sqlite.specs.State.{State, HasCleanDisk, IsRolledBack, IsTooLate, IsUnchanged, KeepsCommit, QueriesRow, QueriesRowInside, FailsToQuery, IsNotRun, Shown, Survives}
+use Rattle.sqlite.specs.State.{State, HasCleanDisk, IsRolledBack, IsTooLate, IsUnchanged, KeepsCommit, QueriesRow, QueriesRowInside}
+use Rattle.sqlite.specs.State.{FailsToQuery, IsNotRun, Shown, Survives}
 use Rattle.sqlite.specs.Held.{Held, state}
 use Rattle.dmr_records.specs.Ran.{begun, Looks}
 use Rattle.dmr_records.specs.Tables.{HasCommitted}

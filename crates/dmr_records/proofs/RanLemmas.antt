@@ -1,6 +1,7 @@
 -- Statements that run one after another: one, more, and each of a loop.
-use Rattle.std.proofs.Common.{◌≡◌, ◌+◌, ◌<◌, ◌≤◌, inl, inr, ℕ, Bool, true, false, IsTrue, List, [], ◌∷◌, ◌++◌, map, length, drop, get_or, Result, Ok, Err, arith, refl, sym, ap, subst, ◌∙◌}
-use Rattle.std.proofs.lemmas.List.{drop_more, drop_all}
+use Rattle.std.proofs.Common.{◌≡◌, ◌+◌, ◌<◌, ◌≤◌, inl, inr, ℕ, Bool, true, false, IsTrue, List, [], ◌∷◌, ◌++◌, map, length, drop, get_or}
+use Rattle.std.proofs.Common.{Result, Ok, Err, arith, refl, sym, subst, ◌∙◌}
+use Rattle.std.proofs.lemmas.List.{drop_all}
 use Rattle.sqlite.specs.Store.{Ghosts}
 use Rattle.sqlite.specs.Order.{Row}
 use Rattle.sqlite.specs.declared.error.Error.{Error}
@@ -11,6 +12,7 @@ use Rattle.sqlite.specs.Held.{Held, state}
 use Rattle.sqlite.proofs.StateLemmas.{survives_then}
 use Rattle.dmr_records.specs.Statements.{Statement, put_registration, put_registrations}
 use Rattle.dmr_records.specs.Ran.{Executed, ExecutedAll, Failed, Keeps, RanAll, Within}
+use Rattle.dmr_pdu.proofs.ListLaws.{rest_is}
 
 -- some statements, and then others
 pub ran_then : {S : Type 0} (g : Ghosts S) (first second : List Statement) (old mid new : Held S) (r : Result (Unit {0}) Error) →
@@ -38,10 +40,6 @@ pub one_err : {S : Type 0} (g : Ghosts S) (it : Statement) (old new : Held S) (e
 one_err {S} g it old new e (inl (other, is, failed)) = let same : other ≡ e =
     cc in subst (λ (x : Error). Within g old new (Failed g it old new x)) same failed
 one_err {S} g it old new e (inr (mid, ran, done)) = absurd (let is = done.0 in cc)
-
--- the elements that are left begin with the one that is read
-rest_is : {X : Type 0} (xs : List X) (i : ℕ) (x : X) → i < length xs → x ≡ get_or xs i x → drop i xs ≡ x ∷ drop (i + 1) xs
-rest_is xs i x within read = drop_more xs i x within ∙ ap (λ y. y ∷ drop (i + 1) xs) (sym read)
 
 -- In a loop that runs one statement for each element: whatever the statements that are left lead to, those of all
 -- elements lead to from the start. So it is at the start ..

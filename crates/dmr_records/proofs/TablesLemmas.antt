@@ -11,7 +11,8 @@ use Rattle.sqlite.proofs.Callers.{survives_begin}
 use Rattle.dmr_records.specs.Ran.{begun, Looks}
 use Rattle.dmr_records.specs.Statements.{version_before}
 use Rattle.dmr_records.specs.declared.rows.TheConstants.{CARRY_OVER, TABLES}
-use Rattle.dmr_records.specs.Tables.{carry_over, tables, MayLeaveTables, MayPrepare, FindsVersion, FindsNoVersion, HasVersion, HasNoVersion, Needs}
+use Rattle.dmr_records.specs.Tables.{carry_over, tables, MayLeaveTables, MayPrepare, FindsVersion, FindsNoVersion, HasVersion, HasNoVersion}
+use Rattle.dmr_records.specs.Tables.{Needs}
 use Rattle.dmr_records.proofs.QueryLemmas.{early, has_committed}
 
 -- what was read in a transaction that was then rolled back

@@ -7,8 +7,8 @@ use Rattle.dmr_core.specs.CommandWords.{kind_of, numbers_of, row_of}
 use Rattle.dmr_keeper.specs.declared.changes.Change.{Change}
 use Rattle.dmr_keeper.specs.declared.changes.ChangeKind.{ChangeKind}
 use Rattle.dmr_keeper.specs.declared.changes.ChangeKind.TheVariants as change
-use Rattle.dmr_keeper.specs.declared.notes.Note.{Note}
-use Rattle.dmr_keeper.specs.declared.notes.Outcome.{Outcome}
+use Rattle.dmr_keeper.specs.declared.notes.TimedOccurrence.{TimedOccurrence}
+use Rattle.dmr_keeper.specs.declared.notes.CommandOutcome.{CommandOutcome}
 use Rattle.dmr_keeper.specs.declared.notes.Occurrence.{Occurrence}
 use Rattle.dmr_keeper.specs.declared.notes.Occurrence.TheVariants as what
 use Rattle.dmr_records.specs.declared.events.EventRow.{EventRow}
@@ -52,7 +52,7 @@ with_numbers e (a ∷ others) (n ∷ numbers) = with_numbers (with_number e a n)
 with_numbers e arguments numbers = e
 
 -- an operator's command: what it names, and its result
-abbrev pub event_of_command : ℕ → Command → Outcome → EventRow
+abbrev pub event_of_command : ℕ → Command → CommandOutcome → EventRow
 event_of_command tick c outcome =
     record (with_numbers (bare tick (kind.Command (kind_of c))) (row_of c).arguments (numbers_of c)) {
       reply = Some outcome;
@@ -74,5 +74,5 @@ event_of tick (what.Refused source target reason) =
     record (bare tick kind.Refused) { radio = Some source; target = Some target; reason = Some reason }
 event_of tick (what.Commanded c outcome) = event_of_command tick c outcome
 
-abbrev pub event_of_note : Note → EventRow
+abbrev pub event_of_note : TimedOccurrence → EventRow
 event_of_note note = event_of note.tick note.what

@@ -9,7 +9,7 @@ use Rattle.dmr_keeper.specs.declared.calls.EndedCall.{EndedCall}
 use Rattle.dmr_keeper.specs.declared.carriers.CarrierCounts.{CarrierCounts}
 use Rattle.dmr_keeper.specs.declared.changes.Change.{Change}
 use Rattle.dmr_keeper.specs.declared.counts.TermCounts.{TermCounts}
-use Rattle.dmr_keeper.specs.declared.notes.Note.{Note}
+use Rattle.dmr_keeper.specs.declared.notes.TimedOccurrence.{TimedOccurrence}
 use Rattle.dmr_keeper.specs.declared.records.Records.{Records}
 use Rattle.dmr_keeper.specs.declared.time.TermTime.{TermTime}
 use Rattle.dmr_keeper.specs.declared.time.TimedRecords.{TimedRecords}
@@ -211,8 +211,8 @@ abbrev pub put_changes : TermRow → List Change → List Statement
 put_changes term changes = map (λ (c : Change). put_event term (event_of_change c)) changes
 
 -- the notes, in their order
-abbrev pub put_notes : TermRow → List Note → List Statement
-put_notes term notes = map (λ (n : Note). put_event term (event_of_note n)) notes
+abbrev pub put_notes : TermRow → List TimedOccurrence → List Statement
+put_notes term notes = map (λ (n : TimedOccurrence). put_event term (event_of_note n)) notes
 
 -- the counts of carriers, in their order
 abbrev pub put_carriers : TermRow → List CarrierCounts → List Statement

@@ -3,8 +3,8 @@ use Rattle.std.specs.Prelude.{ℕ, List, ◌++◌, codes}
 use Rattle.dmr_core.specs.CommandWords.{command_row}
 use Rattle.dmr_keeper.specs.declared.cause.EndCause.{EndCause}
 use Rattle.dmr_keeper.specs.declared.cause.EndCause.TheVariants as cause
-use Rattle.dmr_keeper.specs.declared.notes.Outcome.{Outcome}
-use Rattle.dmr_keeper.specs.declared.notes.Outcome.TheVariants as outcome
+use Rattle.dmr_keeper.specs.declared.notes.CommandOutcome.{CommandOutcome}
+use Rattle.dmr_keeper.specs.declared.notes.CommandOutcome.TheVariants as outcome
 use Rattle.dmr_records.specs.declared.events.EventKind.{EventKind}
 use Rattle.dmr_records.specs.declared.events.EventKind.TheVariants as kind
 
@@ -29,7 +29,7 @@ kind_word kind.Refused = codes "refused"
 kind_word (kind.Command k) = (command_row k).name ++ codes "_command"
 
 -- the result of an operator's command
-abbrev pub outcome_word : Outcome → List ℕ
+abbrev pub outcome_word : CommandOutcome → List ℕ
 outcome_word outcome.Done = codes "done"
 outcome_word outcome.NotRegistered = codes "not_registered"
 outcome_word outcome.Busy = codes "busy"

@@ -8,7 +8,7 @@ ghost use Rattle.dmr_records.specs.Events.{kind_of_change as kind_by_change};
 ghost use Rattle.dmr_records.specs.Events.{with_number, with_numbers};
 
 use dmr_core::{Argument, Command, CommandKind};
-use dmr_keeper::{Change, ChangeKind, Note, Occurrence, Outcome};
+use dmr_keeper::{Change, ChangeKind, CommandOutcome, Occurrence, TimedOccurrence};
 
 /// The kind of an event.
 #[derive(Clone, Copy, Debug, PartialEq, Eq)]
@@ -51,7 +51,7 @@ pub struct EventRow {
     /// The reason code of the acknowledgement.
     pub reason: Option<u32>,
     /// The result of the command.
-    pub reply: Option<Outcome>,
+    pub reply: Option<CommandOutcome>,
 }
 
 /// An event of this kind with no other value than the tick.
@@ -121,7 +121,7 @@ fn put_numbers(event: &mut EventRow, arguments: &[Argument], numbers: &[u32])
 }
 
 /// The event of a command with its result.
-fn event_of_command(tick: u64, command: &Command, outcome: Outcome) -> EventRow
+fn event_of_command(tick: u64, command: &Command, outcome: CommandOutcome) -> EventRow
     ensures { result ≡ event_by_command tick command.now outcome }
 {
     let (kind, numbers) = command.parts();
@@ -132,7 +132,7 @@ fn event_of_command(tick: u64, command: &Command, outcome: Outcome) -> EventRow
 }
 
 /// The event of a note.
-pub fn event_of_note(note: &Note) -> EventRow
+pub fn event_of_note(note: &TimedOccurrence) -> EventRow
     ensures { result ≡ note_row note.now }
 {
     let tick = note.tick;

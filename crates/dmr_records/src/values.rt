@@ -10,7 +10,7 @@ ghost use Rattle.dmr_records.specs.Words.{outcome_word as word_of_outcome};
 
 use crate::term_row::TermRow;
 use crate::words::outcome_word;
-use dmr_keeper::Outcome;
+use dmr_keeper::CommandOutcome;
 use sqlite::types::ValueRef;
 
 /// A count as an integer of SQLite. A count above the greatest of these integers, 2 ^ 63 - 1, becomes that integer.
@@ -78,7 +78,7 @@ pub fn word(value: &'static str) -> ValueRef<'static>
 }
 
 /// The result of a command, or NULL if there is none.
-pub fn outcome_or_null(value: Option<Outcome>) -> ValueRef<'static>
+pub fn outcome_or_null(value: Option<CommandOutcome>) -> ValueRef<'static>
     ensures { bound_value (owned result) ≡ or_null (λ o. Words (word_of_outcome o)) value }
 {
     match value {

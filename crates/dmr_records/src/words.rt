@@ -5,7 +5,7 @@ ghost use Rattle.dmr_records.specs.Words.{cause_word as word_of_cause, kind_word
 ghost use Rattle.dmr_records.specs.Words.{outcome_word as word_of_outcome};
 
 use crate::events::EventKind;
-use dmr_keeper::{EndCause, Outcome};
+use dmr_keeper::{CommandOutcome, EndCause};
 
 /// The word for the cause of a call's end.
 pub fn cause_word(cause: &EndCause) -> &'static str
@@ -38,14 +38,14 @@ pub fn kind_word(kind: &EventKind) -> &'static str
 }
 
 /// The word for the result of a command.
-pub fn outcome_word(outcome: &Outcome) -> &'static str
+pub fn outcome_word(outcome: &CommandOutcome) -> &'static str
     ensures { result.now ≡ word_of_outcome outcome.now }
 {
     match outcome {
-        Outcome::Done => "done",
-        Outcome::NotRegistered => "not_registered",
-        Outcome::Busy => "busy",
-        Outcome::NoCall => "no_call",
-        Outcome::NoCarrier => "no_carrier",
+        CommandOutcome::Done => "done",
+        CommandOutcome::NotRegistered => "not_registered",
+        CommandOutcome::Busy => "busy",
+        CommandOutcome::NoCall => "no_call",
+        CommandOutcome::NoCarrier => "no_carrier",
     }
 }

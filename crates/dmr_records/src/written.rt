@@ -19,7 +19,7 @@ use crate::rows::{
     cut_registrations, put_call, put_carrier, put_event, put_registration, put_term,
 };
 use crate::term_row::TermRow;
-use dmr_keeper::{CarrierCounts, Change, EndedCall, Note, Records, TimedRecords};
+use dmr_keeper::{CarrierCounts, Change, EndedCall, Records, TimedOccurrence, TimedRecords};
 use dmr_pdu::Address;
 use sqlite::{Alter, Error, Transaction};
 
@@ -61,7 +61,7 @@ fn put_changes<S: Alter>(
 fn put_notes<S: Alter>(
     tx: &mut Transaction<'_, S>,
     term: TermRow,
-    notes: &[Note],
+    notes: &[TimedOccurrence],
 ) -> Result<(), Error>
     ensures same_reference { tx.new.conn.ghost_name ≡ tx.old.conn.ghost_name }
     ensures ran { RanAll S.Store (statements_of_notes term notes.now)

@@ -1,3 +1,4 @@
 pub mod LeastLemmas
 pub mod NextLemmas
 pub mod HeldLemmas
+pub mod Laws

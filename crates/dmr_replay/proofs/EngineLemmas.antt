@@ -1,5 +1,5 @@
 -- The output of a run on a new site is that of the one legal journal.
-use Rattle.std.proofs.Common.{◌≡◌, ℕ, List, [], ◌∷◌, None, reverse, slice_index_or, refl, ap, ◌∙◌}
+use Rattle.std.proofs.Common.{◌≡◌, ℕ, List, [], None, reverse, slice_index_or, ap, ◌∙◌}
 use Rattle.std.proofs.lemmas.List.{reverse-reverse}
 use Rattle.dmr_plan.specs.declared.settings.Settings.{Settings}
 use Rattle.dmr_core.specs.declared.entry.Entry.{Entry}
@@ -14,11 +14,7 @@ use Rattle.dmr_link.specs.Session.{events_in, session_text}
 use Rattle.dmr_link.specs.State.{State, next_of}
 use Rattle.dmr_link.specs.Texts.{Texts}
 use Rattle.dmr_replay.specs.Inputs.{octets_written, operators_text}
-
--- the journal of these events has these events
-its_events : (plan : Settings) (facts : Facts) (events : List Event) → events_of (journal_of plan facts events) ≡ events
-its_events plan facts [] = refl
-its_events plan facts (event ∷ earlier) = ap (λ (es : List Event). event ∷ es) (its_events plan facts earlier)
+use Rattle.dmr_core.proofs.JournalLaws.{events-journal}
 
 -- the events of the inputs' meaning, the newest first
 abbrev events : Settings → List Input → List Event
@@ -35,7 +31,7 @@ module _ (plan : Settings) (s new : State) (outputs : Texts) (inputs : List Inpu
   answered : IsAnswered s new outputs (all_mean s.plan no_past inputs) (journal_of s.plan s.facts (events s.plan inputs))
   answered =
       let theirs : reverse (events_of (journal_of s.plan s.facts (events s.plan inputs))) ≡ events_in (all_mean s.plan no_past inputs) =
-      ap (λ (es : List Event). reverse es) (its_events s.plan s.facts (events s.plan inputs))
+      ap (λ (es : List Event). reverse es) (events-journal s.plan s.facts (events s.plan inputs))
       ∙ reverse-reverse (events_in (all_mean s.plan no_past inputs)) in
       run.by_each no_past stands (journal_of s.plan s.facts (events s.plan inputs)) (legal s.facts (events s.plan inputs)) theirs
 

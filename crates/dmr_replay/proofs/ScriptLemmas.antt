@@ -1,5 +1,7 @@
 -- Reading one more line of a script, to check it or to run it.
-use Rattle.std.proofs.Common.{◌≡◌, ℕ, zero, suc, Bool, not, ◌&&◌, is_none, ◌+◌, ◌<◌, ◌≤◌, true, false, List, [], ◌∷◌, ◌++◌, Some, None, Result, Ok, Err, length, take, drop, slice_index_or, replicate, refl, sym, ap, ◌∙◌, append_assoc, zero-add, arith}
+use Rattle.std.proofs.Common.{◌≡◌, ℕ, zero, suc, Bool, not, ◌&&◌, is_none, ◌+◌, ◌<◌, ◌≤◌, true, false, List, [], ◌∷◌, ◌++◌, Some, None}
+use Rattle.std.proofs.Common.{Result, Ok, Err, length, take, drop, slice_index_or, replicate, refl, sym, ap, ◌∙◌, append_assoc, zero-add}
+use Rattle.std.proofs.Common.{arith}
 use Rattle.std.specs.Prelude.{Option, find}
 use Rattle.std.specs.List.{cons_option, enumerate_from, filter_map}
 use Rattle.std.proofs.lemmas.List.FromFn.{length-enumerate_from, get_or-enumerate_from}
@@ -7,7 +9,8 @@ use Rattle.std.proofs.lemmas.List.{append-nil, drop_more, drop_all, take_more, t
 use Rattle.std.proofs.lemmas.List.Elements.{filter_map-append}
 use Rattle.std.proofs.lemmas.Grind.{flat_map-append}
 use Rattle.dmr_link.specs.Input.{Input}
-use Rattle.dmr_replay.specs.Script.{RepeatedInput, given_in, numbered_input, input_of_line, inputs_of_script, is_faulty_line, is_skipped, line_input, lines_of, unless_fault}
+use Rattle.dmr_replay.specs.Script.{RepeatedInput, given_in, numbered_input, input_of_line, inputs_of_script, is_faulty_line, is_skipped}
+use Rattle.dmr_replay.specs.Script.{line_input, lines_of, unless_fault}
 
 -- the result of a script of which these lines, from number n on, are not read yet, and the earlier ones have these
 -- inputs

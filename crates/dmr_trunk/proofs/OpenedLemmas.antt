@@ -1,5 +1,6 @@
 -- What serving opens has a station for each carrier of the plan, by number, and its first term can begin.
-use Rattle.std.proofs.Common.{◌≡◌, ℕ, zero, suc, ◌+◌, List, [], ◌∷◌, ◌++◌, Bool, true, false, Option, None, Some, IsSomeAnd, Result, Ok, Err, IfOk, OnOk, map, refl, sym, ◌∙◌, ap, subst, arith, add-zero, if◌then◌else◌}
+use Rattle.std.proofs.Common.{◌≡◌, ℕ, zero, suc, ◌+◌, List, [], ◌∷◌, ◌++◌, Bool, true, false, Option, None, Some, IsSomeAnd, Result, Ok}
+use Rattle.std.proofs.Common.{Err, IfOk, OnOk, map, refl, sym, ◌∙◌, ap, subst, arith, add-zero, if◌then◌else◌}
 use Rattle.dmr_plan.specs.declared.carriers.CarrierRow.{CarrierRow}
 use Rattle.dmr_plan.specs.declared.settings.Settings.{Settings}
 use Rattle.dmr_plan.specs.Carriers.{row_with}

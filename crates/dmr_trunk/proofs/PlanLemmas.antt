@@ -1,5 +1,6 @@
 -- The site of a plan is served: what is opened for it, then the terms, and what remains.
-use Rattle.std.proofs.Common.{◌≡◌, ℕ, List, [], Bool, Option, None, Result, Ok, Err, IfErr, IfOk, IsOk, IsOkAnd, MatchResult, OnOk, sym, ◌∙◌, ap, subst}
+use Rattle.std.proofs.Common.{◌≡◌, ℕ, List, [], Bool, Option, None, Result, Ok, Err, IfErr, IfOk, IsOk, IsOkAnd, MatchResult, OnOk, sym}
+use Rattle.std.proofs.Common.{◌∙◌, ap, subst}
 use Rattle.std.proofs.lemmas.Bool.{false≢true}
 use Rattle.dmr_core.specs.Restored.{restored}
 use Rattle.dmr_core.specs.State.{SiteState}

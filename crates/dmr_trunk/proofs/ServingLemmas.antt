@@ -1,7 +1,8 @@
 -- Rows of terms, as serving runs them.
-use Rattle.std.proofs.Common.{◌≡◌, ℕ, ◌+◌, ◌<◌, List, [], ◌∷◌, ◌++◌, None, Option, Some, Result, Err, IfErr, length, refl, sym, ◌∙◌, ap, subst, append_assoc, arith}
+use Rattle.std.proofs.Common.{◌≡◌, ℕ, ◌+◌, ◌<◌, List, [], ◌∷◌, ◌++◌, Option, Some, Result, Err, IfErr, length, refl, sym, ◌∙◌, ap, subst}
+use Rattle.std.proofs.Common.{append_assoc, arith}
 use Rattle.std.proofs.lemmas.List.{append-nil}
-use Rattle.std.proofs.lemmas.Option.{same_Some}
+use Rattle.std.proofs.lemmas.Option.{same_Some, none-some}
 use Rattle.dmr_core.specs.declared.entry.Entry.{Entry}
 use Rattle.dmr_desk.specs.declared.fault.TermFault.{TermFault}
 use Rattle.dmr_desk.specs.declared.fault.TermFault.TheVariants as term_fault
@@ -16,12 +17,9 @@ use Rattle.dmr_trunk.specs.declared.holding.Keeping.{Keeping}
 use Rattle.dmr_trunk.specs.Served.{HaveServed, HaveStoppedServing}
 use Rattle.dmr_trunk.specs.Stored.{ArePassedOn, GoOn, HasMadeIfWanted, HaveStored, IsAtEnd, waiting_with}
 use Rattle.dmr_trunk.proofs.StoredLemmas.{IsCarried, carried_at_first, carried_then, stored_at_first, stored_on, stored_then}
+use Rattle.dmr_desk.proofs.TermLaws.{limit_stays}
 
 -- ---- a row of terms
-
-pub limit_stays : (start : Start) (ends : List End) → (start_after start ends).limit ≡ start.limit
-limit_stays start [] = refl
-limit_stays start (end ∷ ends) = refl
 
 -- before the first term
 abbrev pub run_none : (start : Start) (seen : Option (List (List Entry))) → HaveRun start 0 start seen seen
@@ -149,16 +147,13 @@ at_err P r e is given = subst (λ x. IfErr x P) is given
 
 -- ---- a term that is tried again
 
-none_is_some : {A : Type 0} (x : A) → None ≡ Some x → ⊥
-none_is_some x is = cc
-
 -- what is left after this fault, if anything is, is what was given
 pub left_is_given : {A : Type 0} (fault : TermFault) (given left : A) → left_at fault given ≡ Some left → left ≡ given
 left_is_given term_fault.BadStations given left is = sym (same_Some given left is)
 left_is_given (term_fault.Open why) given left is = sym (same_Some given left is)
-left_is_given term_fault.NoThread given left is = absurd (none_is_some left is)
-left_is_given (term_fault.Audit why) given left is = absurd (none_is_some left is)
-left_is_given (term_fault.Early actor) given left is = absurd (none_is_some left is)
+left_is_given term_fault.NoThread given left is = absurd (none-some left is)
+left_is_given (term_fault.Audit why) given left is = absurd (none-some left is)
+left_is_given (term_fault.Early actor) given left is = absurd (none-some left is)
 
 -- a fault of a term from what is the same
 pub fault_from : {A : Type 0} (a b : A) (begin : A → Start) (x y : TermFault) → a ≡ b → y ≡ x → IsTermFault (begin a) x →

@@ -1,5 +1,6 @@
 -- Records on their way from terms to the store.
-use Rattle.std.proofs.Common.{◌≡◌, ℕ, zero, suc, ◌+◌, ◌-◌, ◌≤◌, ◌<◌, ◌^◌, List, [], ◌∷◌, ◌++◌, Option, None, Some, IfSome, IsSomeAnd, false, true, IsOk, Result, Err, length, drop, append_assoc, refl, sym, ◌∙◌, ap, subst, arith}
+use Rattle.std.proofs.Common.{◌≡◌, ℕ, zero, suc, ◌+◌, ◌-◌, ◌≤◌, ◌<◌, ◌^◌, List, [], ◌∷◌, ◌++◌, Option, None, Some, IfSome, IsSomeAnd, false}
+use Rattle.std.proofs.Common.{true, IsOk, Result, Err, length, drop, append_assoc, refl, sym, ◌∙◌, ap, subst, arith}
 use Rattle.std.proofs.lemmas.List.{append-nil}
 use Rattle.dmr_core.specs.declared.entry.Entry.{Entry}
 use Rattle.dmr_plan.specs.declared.settings.Settings.{Settings}
@@ -12,7 +13,8 @@ use Rattle.dmr_keeper.specs.Kept.{Kept}
 use Rattle.dmr_keeper.specs.Records.{AreRecords}
 use Rattle.dmr_keeper.specs.Ticks.{ticks_in}
 use Rattle.dmr_keeper.proofs.KeepsLaws.{keeps_nothing, keeps_more}
-use Rattle.dmr_trunk.specs.Stored.{IsRecordOf, HasMadeIfWanted, carried_after_all, AreRecordsOf, Passage, at_first, made, handed_over, lost, ArePassedOn, GoOn, waiting_with, HaveStored, IsAtEnd}
+use Rattle.dmr_trunk.specs.Stored.{IsRecordOf, HasMadeIfWanted, carried_after_all, AreRecordsOf, Passage, at_first, made, handed_over, lost}
+use Rattle.dmr_trunk.specs.Stored.{ArePassedOn, GoOn, waiting_with, HaveStored, IsAtEnd}
 
 -- ---- records that are made
 

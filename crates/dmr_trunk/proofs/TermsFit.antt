@@ -1,5 +1,5 @@
 -- If a term can begin, each later one can, and it fails for no other reason than `MayFail` says.
-use Rattle.std.proofs.Common.{◌≡◌, ℕ, zero, suc, ◌<◌, List, [], ◌∷◌, Option, Some, length, map, slice_get, refl, sym, ◌∙◌, ap, subst, arith}
+use Rattle.std.proofs.Common.{◌≡◌, ℕ, List, [], ◌∷◌, Option, Some, map, sym, ◌∙◌, ap, subst, arith}
 use Rattle.std.proofs.lemmas.Option.{slice_get_within}
 use Rattle.dmr_core.specs.declared.entry.Entry.{Entry}
 use Rattle.dmr_core.specs.State.{SiteState}
@@ -13,24 +13,10 @@ use Rattle.dmr_desk.specs.Term.{End, IsTerm, Start}
 use Rattle.dmr_desk.specs.Terms.{AreTerms, Fits, HaveStopped, next_start, start_after}
 use Rattle.dmr_desk.specs.Work.{StationState}
 use Rattle.dmr_trunk.specs.Faults.{MayFail}
-use Rattle.dmr_trunk.proofs.ServingLemmas.{limit_stays}
+use Rattle.dmr_pdu.proofs.ListLaws.{get_within, same_by_place}
+use Rattle.dmr_desk.proofs.TermLaws.{limit_stays}
 
 -- ---- lists by place
-
-get_within : {A : Type 0} (xs : List A) (k : ℕ) → k < length xs → (x : A) × (slice_get xs k ≡ Some x)
-get_within [] k low = absurd (omega arith)
-get_within (x ∷ xs) zero low = (x, refl)
-get_within (x ∷ xs) (suc k) low = get_within xs k (omega arith)
-
-same_by_place : {A B : Type 0} (f : A → B) (xs ys : List A) → length ys ≡ length xs →
-    ((k : ℕ) (x y : A) → slice_get xs k ≡ Some x → slice_get ys k ≡ Some y → f y ≡ f x) → map f ys ≡ map f xs
-same_by_place f [] [] many same = refl
-same_by_place f [] (y ∷ ys) many same = absurd (omega arith)
-same_by_place f (x ∷ xs) [] many same = absurd (omega arith)
-same_by_place f (x ∷ xs) (y ∷ ys) many same =
-    let here : f y ≡ f x = same 0 x y refl refl in
-    let rest : map f ys ≡ map f xs = same_by_place f xs ys (omega arith) (λ k. same (suc k)) in
-    (λ i. here i ∷ rest i)
 
 -- ---- terms
 

@@ -8,12 +8,12 @@ use Rattle.dmr_recording.specs.Lines.{text_of}
 use Rattle.dmr_recording.specs.Recordable.{AreRecordable, IsFirstFault, up_after_all}
 use Rattle.dmr_recording.specs.Restored.{session_of}
 use Rattle.dmr_trunk.specs.declared.script.RecordingFile.{RecordingFile}
-use Rattle.dmr_trunk.specs.declared.script.ScriptFault.{ScriptFault}
-use Rattle.dmr_trunk.specs.declared.script.ScriptFault.TheVariants.{Exists, CannotMake, Long}
-use Rattle.dmr_trunk.specs.declared.script.ScriptFault.TheVariants.{Full, NotWritten, Removed}
+use Rattle.dmr_trunk.specs.declared.script.ScriptFileFault.{ScriptFileFault}
+use Rattle.dmr_trunk.specs.declared.script.ScriptFileFault.TheVariants.{Exists, CannotMake, Long}
+use Rattle.dmr_trunk.specs.declared.script.ScriptFileFault.TheVariants.{Full, NotWritten, Removed}
 use Rattle.dmr_trunk.specs.declared.scripted.RecordingEnd.{RecordingEnd}
 use Rattle.dmr_trunk.specs.declared.scripted.RecordingEnd.TheVariants.{NotRecorded, Refused}
-use Rattle.dmr_trunk.specs.declared.scripted.Recording.{Recording}
+use Rattle.dmr_trunk.specs.declared.scripted.SiteRecording.{SiteRecording}
 
 -- between two moments these octets were appended, and no others. So if the script reports at the second moment, it has
 -- what it had at the first, and these
@@ -22,13 +22,13 @@ pub record Appends (before : Option (List ℕ)) (octets : List ℕ) (after : Opt
       → (begun : List ℕ) × (before ≡ Some begun) × (whole ≡ begun ++ octets)
 
 -- a fault of making the file
-abbrev pub is_of_making : ScriptFault → Bool
+abbrev pub is_of_making : ScriptFileFault → Bool
 is_of_making Exists = true
 is_of_making CannotMake = true
 is_of_making other = false
 
 -- a fault of the disk, or of a file that was removed
-abbrev pub is_of_disk : ScriptFault → Bool
+abbrev pub is_of_disk : ScriptFileFault → Bool
 is_of_disk Full = true
 is_of_disk NotWritten = true
 is_of_disk Removed = true
@@ -36,7 +36,7 @@ is_of_disk other = false
 
 -- the file of a recording may refuse lines with this fault. The faults of making it come only while it is not open, and
 -- `Long` only if it would have more than 1 GiB. Nobody knows before what the disk refuses
-abbrev pub MayRefuse : RecordingFile → List ℕ → ScriptFault → Type 0
+abbrev pub MayRefuse : RecordingFile → List ℕ → ScriptFileFault → Type 0
 MayRefuse file lines Exists = file.file ≡ None
 MayRefuse file lines CannotMake = file.file ≡ None
 MayRefuse file lines Long = 1073741824 < file.octets + length lines
@@ -52,13 +52,13 @@ abbrev pub lines_of : Settings → List Event → List ℕ
 lines_of plan events = text_of (inputs_of_events plan events)
 
 -- the script refuses lines, and so the recording ends
-abbrev pub IsRefusal : (ScriptFault → Type 0) → RecordingEnd → Type 0
+abbrev pub IsRefusal : (ScriptFileFault → Type 0) → RecordingEnd → Type 0
 IsRefusal refuses (NotRecorded fault) = ⊥
 IsRefusal refuses (Refused fault) = refuses fault
 
 -- why a recording ends with these events. One of them cannot be recorded, and this is the first; or there is no memory
 -- for their lines; or the script refuses the lines
-abbrev pub IsEnding : (List ℕ → ScriptFault → Type 0) → Settings → List Bool → List Event → RecordingEnd → Type 0
+abbrev pub IsEnding : (List ℕ → ScriptFileFault → Type 0) → Settings → List Bool → List Event → RecordingEnd → Type 0
 IsEnding refuses plan up events (NotRecorded fault) =
     (fault ≡ OutOfMemory) ⊎ IsFirstFault plan up 0 events fault
 IsEnding refuses plan up events (Refused fault) = refuses (lines_of plan events) fault
@@ -66,8 +66,8 @@ IsEnding refuses plan up events (Refused fault) = refuses (lines_of plan events)
 -- the recording of a plan's site begins, on which these radios are registered. If there are any, the script has the
 -- lines of the session in which they register; if it cannot, the recording has ended
 pub record BeginsRecording {W R : Type 0} (appended : W → Option (List ℕ))
-    (refuses : W → List ℕ → ScriptFault → Type 0) (plan : Settings) (radios : List ℕ) (script : W)
-    (recording : Recording W R) : Type 0 where
+    (refuses : W → List ℕ → ScriptFileFault → Type 0) (plan : Settings) (radios : List ℕ) (script : W)
+    (recording : SiteRecording W R) : Type 0 where
   pub planned : recording.plan ≡ plan
   pub up : recording.up ≡ replicate 16 false
   pub lines : recording.ending ≡ None → Appends (appended script)
@@ -77,7 +77,7 @@ pub record BeginsRecording {W R : Type 0} (appended : W → Option (List ℕ))
 
 -- the same if there is a script; without one nothing is recorded
 abbrev pub BeginsIfAsked : {W R : Type 0} → (W → Option (List ℕ))
-    → (W → List ℕ → ScriptFault → Type 0) → Settings → List ℕ → Option W → Option (Recording W R)
+    → (W → List ℕ → ScriptFileFault → Type 0) → Settings → List ℕ → Option W → Option (SiteRecording W R)
     → Type 0
 BeginsIfAsked appended refuses plan radios None recording = recording ≡ None
 BeginsIfAsked appended refuses plan radios (Some script) recording =
@@ -86,7 +86,7 @@ BeginsIfAsked appended refuses plan radios (Some script) recording =
 -- a recording was given further events. If it goes on, each of them could be recorded, and the lines of all were
 -- appended; otherwise nothing was. A recording that ends now has a reason among these events. One that had ended before
 -- keeps its reason
-pub record HasAppended (before : Option (List ℕ)) (refuses : List ℕ → ScriptFault → Type 0)
+pub record HasAppended (before : Option (List ℕ)) (refuses : List ℕ → ScriptFileFault → Type 0)
     (plan : Settings) (up : List Bool) (old : Option RecordingEnd) (events : List Event)
     (after : Option (List ℕ)) (up_then : List Bool) (new : Option RecordingEnd) : Type 0 where
   pub recordable : new ≡ None → AreRecordable plan up events

@@ -52,7 +52,7 @@ impl<K: Keeper + Drop> Keeping<K> {
 
 /// The records of the terms that have ended since the store was last handed some.
 #[derive(Drop)]
-pub struct Waiting {
+pub struct WaitingRecords {
     /// The records, oldest term first.
     pub outbox: RecordQueue,
     /// Why the store last refused records, as far as it was noted.
@@ -61,12 +61,12 @@ pub struct Waiting {
     lost: u64,
 }
 
-impl Waiting {
+impl WaitingRecords {
     /// Begins with no records.
-    pub fn new(outbox: RecordQueue) -> Waiting
+    pub fn new(outbox: RecordQueue) -> WaitingRecords
         ensures { result.outbox ≡ outbox }
     {
-        Waiting {
+        WaitingRecords {
             outbox,
             noted: None,
             lost: 0,
@@ -205,7 +205,7 @@ pub fn go_on<'s, E, K, R>(
     scope: &'s Scope<'s, E>,
     written: &'s AtomicBool,
     writer: Writer<K>,
-    waiting: &mut Waiting,
+    waiting: &mut WaitingRecords,
     notes: &mut Notes<'_, R>,
 ) -> Writer<K>
 where
@@ -234,7 +234,7 @@ where
 pub fn hand_over_rest<K, R>(
     rt: &R,
     writer: Writer<K>,
-    mut waiting: Waiting,
+    mut waiting: WaitingRecords,
     notes: &mut Notes<'_, R>,
 ) -> Keeping<K>
 where

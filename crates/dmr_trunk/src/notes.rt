@@ -1,7 +1,7 @@
 //! Notes: the serving program's log, on standard error.
 
 use crate::not_served::NotServed;
-use crate::script::ScriptFault;
+use crate::script::ScriptFileFault;
 use crate::term_log::Happened;
 use dmr_command::VERSION;
 use dmr_keeper::{KeepFault, MOST_WAITING};
@@ -258,7 +258,7 @@ impl<'a, R: Log> Notes<'a, R> {
     }
 
     /// Notes why the recording has ended: its script takes no more lines.
-    pub fn recording_ended(&mut self, fault: ScriptFault) {
+    pub fn recording_ended(&mut self, fault: ScriptFileFault) {
         if self.is_ready() {
             warn!(*self.rt; target: TARGET, "recording: ended: {fault}");
         }

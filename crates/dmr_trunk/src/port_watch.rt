@@ -14,7 +14,7 @@ const NEWCOMERS: usize = 9;
 
 /// A newcomer that waits, and the milliseconds of the clock when it began to.
 #[derive(Clone, Copy, Debug)]
-struct Waiting {
+struct WaitingNewcomer {
     from: SocketAddr,
     since: u64,
 }
@@ -35,7 +35,7 @@ pub struct PortWatch<'a, R> {
     // For how many milliseconds it waited before that, if it had to.
     waited: Option<u64>,
     // The newcomers that wait, oldest first. One that has ended stays until there is no room for another.
-    waiting: Vec<Waiting>,
+    waiting: Vec<WaitingNewcomer>,
     control: Control,
 }
 
@@ -111,7 +111,7 @@ impl<'a, R: Log + Clock> PortWatch<'a, R> {
             self.waiting.remove(0);
         }
         // If memory is out, the note that it is served will not say how long it waited.
-        let _ = self.waiting.push(Waiting { from, since });
+        let _ = self.waiting.push(WaitingNewcomer { from, since });
     }
 
     /// Forgets a newcomer. Returns for how many milliseconds it waited, if it had to.

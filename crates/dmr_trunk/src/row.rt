@@ -11,7 +11,7 @@ ghost use Rattle.dmr_desk.specs.Terms.{Fits};
 ghost use Rattle.dmr_trunk.specs.Served.{HasServed, terms_asked};
 
 use crate::holding::{Keeping, Writer};
-use crate::keeping::{Waiting, go_on, hand_over_rest};
+use crate::keeping::{WaitingRecords, go_on, hand_over_rest};
 use crate::notes::Notes;
 use crate::recorded::{RecordMaker, records_of_term};
 use dmr_desk::{
@@ -138,7 +138,7 @@ pub struct Books<'a, K, R> {
     /// What makes them. `None` if the store keeps none.
     pub maker: Option<RecordMaker<'a, R>>,
     /// Those that wait.
-    pub waiting: Waiting,
+    pub waiting: WaitingRecords,
     /// The store.
     pub keeping: Keeping<K>,
 }

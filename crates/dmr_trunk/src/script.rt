@@ -1,7 +1,7 @@
 //! The script to which a site is recorded: a new file, if the environment names one.
 
 ghost use Rattle.std.specs.Prelude.{◌≡◌, ℕ, List, [], Option, None, true, IfErr, OnErr, OnOk};
-ghost use Rattle.dmr_trunk.specs.declared.script.ScriptFault.{ScriptFault as AFault};
+ghost use Rattle.dmr_trunk.specs.declared.script.ScriptFileFault.{ScriptFileFault as AFault};
 ghost use Rattle.dmr_trunk.specs.Scripts.{Appends, MayRefuse, is_of_disk, is_of_making};
 
 use crate::store::Stored;
@@ -22,7 +22,7 @@ pub const MOST_OCTETS: u64 = 1 << 30;
 
 /// Why lines were not appended to a recording. The texts are those of a note for the operator.
 #[derive(Clone, Copy, Debug, PartialEq, Eq, Error)]
-pub enum ScriptFault {
+pub enum ScriptFileFault {
     /// There is such a file already. Nothing is written to it.
     #[error("there is such a file already")]
     Exists,
@@ -53,7 +53,7 @@ pub trait Script {
     ghost refuses: { Self → List ℕ → AFault → Type 0 };
 
     /// Appends lines. On an error a script that reports has appended none of them.
-    fn append(&mut self, lines: &str) -> Result<(), ScriptFault>
+    fn append(&mut self, lines: &str) -> Result<(), ScriptFileFault>
         ensures appended { OnOk result (Appends (appended self.old) lines.now (appended self.new)) }
         ensures same { OnErr result (Appends (appended self.old) [] (appended self.new)) }
         ensures refused { IfErr result (λ fault. refuses self.old lines.now fault) };
@@ -82,14 +82,14 @@ impl<'a> RecordingFile<'a> {
 }
 
 /// Makes the file of a path. It must not exist.
-fn make_file(rt: &HostRuntime, path: &str) -> Result<File, ScriptFault>
+fn make_file(rt: &HostRuntime, path: &str) -> Result<File, ScriptFileFault>
     ensures { IfErr result (λ fault. is_of_making fault ≡ true) }
 {
     match File::create_new(rt, path) {
         Ok(file) => Ok(file),
         Err(error) => Err(match error.kind() {
-            io::ErrorKind::AlreadyExists => ScriptFault::Exists,
-            _ => ScriptFault::CannotMake,
+            io::ErrorKind::AlreadyExists => ScriptFileFault::Exists,
+            _ => ScriptFileFault::CannotMake,
         }),
     }
 }
@@ -104,19 +104,19 @@ fn is_removed(file: &File) -> bool {
 
 /// Writes lines at the end of a file that has this many octets, unless the file was removed. If not all can be written,
 /// the file is cut back to that length. If that fails too, a first part of the lines stays in it.
-fn write_lines(file: &mut File, octets: u64, lines: &str) -> Result<(), ScriptFault>
+fn write_lines(file: &mut File, octets: u64, lines: &str) -> Result<(), ScriptFileFault>
     ensures { IfErr result (λ fault. is_of_disk fault ≡ true) }
 {
     if is_removed(file) {
-        return Err(ScriptFault::Removed);
+        return Err(ScriptFileFault::Removed);
     }
     match file.write_all(lines.as_bytes()) {
         Ok(()) => Ok(()),
         Err(error) => {
             let _ = file.set_len(octets);
             Err(match error.kind() {
-                io::ErrorKind::StorageFull => ScriptFault::Full,
-                _ => ScriptFault::NotWritten,
+                io::ErrorKind::StorageFull => ScriptFileFault::Full,
+                _ => ScriptFileFault::NotWritten,
             })
         }
     }
@@ -128,10 +128,10 @@ impl Script for RecordingFile<'_> {
 
     ghost refuses = { λ file lines fault. MayRefuse file lines fault };
 
-    fn append(&mut self, lines: &str) -> Result<(), ScriptFault> {
+    fn append(&mut self, lines: &str) -> Result<(), ScriptFileFault> {
         let octets = self.octets.saturating_add(lines.len() as u64);
         if octets > MOST_OCTETS {
-            return Err(ScriptFault::Long);
+            return Err(ScriptFileFault::Long);
         }
         let mut file = match self.file.take() {
             Some(file) => file,

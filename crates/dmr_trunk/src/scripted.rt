@@ -10,7 +10,7 @@ ghost use Rattle.dmr_trunk.specs.Scripts.{IsRefusal};
 ghost use Rattle.dmr_trunk.specs.Scripts.{events_at_start, lines_of};
 
 use crate::notes::Notes;
-use crate::script::{Script, ScriptFault};
+use crate::script::{Script, ScriptFileFault};
 use dmr_core::Entry;
 use dmr_desk::{Observer, Term};
 use dmr_pdu::Address;
@@ -25,12 +25,12 @@ pub enum RecordingEnd {
     /// An event cannot be recorded, or memory ran out.
     NotRecorded(RecordingFault),
     /// The script refused lines.
-    Refused(ScriptFault),
+    Refused(ScriptFileFault),
 }
 
 /// What records a site, if the environment asks for it.
 #[derive(Drop)]
-pub struct Recording<'a, W, R> {
+pub struct SiteRecording<'a, W, R> {
     alloc: Global,
     plan: Plan,
     up: Carriers,
@@ -56,7 +56,7 @@ fn lines_at_start(alloc: Global, plan: &Plan, radios: &[Address]) -> Result<Stri
     }
 }
 
-impl<'a, W: Script, R: Log> Recording<'a, W, R> {
+impl<'a, W: Script, R: Log> SiteRecording<'a, W, R> {
     /// Begins a recording of the terms of a plan's site, on which these radios are registered. If there are any, the
     /// recording begins with a session in which they register. If these lines cannot be appended, the recording has
     /// ended, and it is noted why.
@@ -66,10 +66,10 @@ impl<'a, W: Script, R: Log> Recording<'a, W, R> {
         radios: &[Address],
         script: W,
         notes: Notes<'a, R>,
-    ) -> Recording<'a, W, R>
+    ) -> SiteRecording<'a, W, R>
         ensures { BeginsRecording W.appended W.refuses plan radios.now script result }
     {
-        let mut recording = Recording {
+        let mut recording = SiteRecording {
             alloc,
             plan,
             up: Carriers::none_up(),
@@ -172,7 +172,7 @@ pub struct Scripted<'a, O, W, R> {
     /// The observer.
     pub observer: O,
     /// What records. `None` if nothing does.
-    pub recording: Option<Recording<'a, W, R>>,
+    pub recording: Option<SiteRecording<'a, W, R>>,
 }
 
 impl<'a, S, T, C, O, W, R> Observer<S, T, C> for Scripted<'a, O, W, R>

@@ -10,7 +10,7 @@ ghost use Rattle.std.specs.Prelude.{option_map};
 
 use crate::ends::Connections;
 use crate::holding::Keeping;
-use crate::keeping::Waiting;
+use crate::keeping::WaitingRecords;
 use crate::not_served::NotServed;
 use crate::notes::Notes;
 use crate::opening::{CarrierAt, ConsoleAt, SiteService, beside, open_service, open_wakers};
@@ -18,7 +18,7 @@ use crate::pacer::ClockPacer;
 use crate::recorded::RecordMaker;
 use crate::row::{Books, Ran, Stopped, serve_service};
 use crate::script::{RecordingFile, Script};
-use crate::scripted::{Recording, Scripted};
+use crate::scripted::{Scripted, SiteRecording};
 use crate::term_log::TermLog;
 use crate::wakers::{Polls, Wakers};
 use dmr_command::ServeFault;
@@ -113,7 +113,7 @@ fn open_books<'a, K: Keeper + Drop, R: Net + Log + Clock + Wait>(
     let maker = maker_if_wanted(rt, alloc, site, &keeper)?;
     Ok(Books {
         maker,
-        waiting: Waiting::new(waiting),
+        waiting: WaitingRecords::new(waiting),
         keeping: Keeping {
             keeper,
             outbox,
@@ -128,7 +128,7 @@ fn begin_recording<'a, W: Script + Drop, R: Net + Log>(
     alloc: Global,
     site: &Site,
     script: Option<W>,
-) -> Result<Option<Recording<'a, W, R>>, NotServed>
+) -> Result<Option<SiteRecording<'a, W, R>>, NotServed>
     ensures { IfOk result (BeginsIfAsked W.appended W.refuses site.now.plan
         site.now.facts.registered script) }
 {
@@ -136,7 +136,7 @@ fn begin_recording<'a, W: Script + Drop, R: Net + Log>(
         Some(script) => {
             let notes = Notes::new(rt, alloc)?;
             let plan = *site.plan();
-            Ok(Some(Recording::begin(alloc, plan, site.registered(), script, notes)))
+            Ok(Some(SiteRecording::begin(alloc, plan, site.registered(), script, notes)))
         }
         None => Ok(None),
     }

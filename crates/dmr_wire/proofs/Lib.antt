@@ -1,3 +1,4 @@
 pub mod RecordingLemmas
 pub mod ScriptLemmas
 mod PortCases
+pub mod ReportLaws

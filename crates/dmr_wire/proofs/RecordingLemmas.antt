@@ -1,5 +1,6 @@
 -- A record and its stored form, as an entry and its octets are added.
-use Rattle.std.proofs.Common.{suc, ◌≡◌, ℕ, ◌+◌, ◌-◌, ◌<◌, ◌≤◌, List, [], ◌∷◌, ◌++◌, Bool, true, false, ◌&&◌, nat_lt, nat_le, length, take, drop, map, refl, sym, ◌∙◌, ap, arith, length-append, length-drop, length-take-le}
+use Rattle.std.proofs.Common.{suc, ◌≡◌, ℕ, ◌+◌, ◌-◌, ◌<◌, ◌≤◌, List, [], ◌∷◌, ◌++◌, Bool, true, false, ◌&&◌, nat_lt, nat_le, length, take}
+use Rattle.std.proofs.Common.{drop, map, refl, sym, ◌∙◌, ap, arith, length-append, length-drop, length-take-le}
 use Rattle.std.proofs.lemmas.List.Sums.{sum_by-cons, sum_by_push}
 use Rattle.std.proofs.lemmas.List.{take-append-le, drop-append-le, take-append-drop, take-take}
 use Rattle.dmr_wire.specs.declared.wire.Got.TheVariants as got

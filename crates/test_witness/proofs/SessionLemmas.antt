@@ -1,5 +1,5 @@
 -- What the steps of a link's worker make of a whole session.
-use Rattle.std.proofs.Common.{◌≡◌, ℕ, zero, suc, ◌<◌, List, [], ◌∷◌, ◌++◌, ◌+◌, ◌⊎◌, inl, inr, None, Option, Some, length, map, slice_get, refl, sym, ◌∙◌, ap, subst, arith}
+use Rattle.std.proofs.Common.{◌≡◌, ℕ, List, [], ◌++◌, ◌+◌, ◌⊎◌, inl, inr, Option, Some, length, map, slice_get, sym, ◌∙◌, ap, subst, arith}
 use Rattle.std.specs.Option.{option_map}
 use Rattle.std.proofs.lemmas.Option.{same_Some, slice_get-map}
 use Rattle.dmr_wire.specs.Answers.{Answer, Reports}
@@ -16,11 +16,7 @@ use Rattle.dmr_desk.specs.Term.{End, IsTerm, Start}
 use Rattle.dmr_desk.specs.Views.{view_of}
 use Rattle.dmr_desk.specs.Work.{IsOrderly, Step, StationState, WorkState, Steps, happened_of, past_after, work_state}
 use Rattle.test_witness.specs.Session.{IsNewStation, IsWholeSession}
-
-pub get_within : {A : Type 0} (xs : List A) (k : ℕ) → k < length xs → (x : A) × (slice_get xs k ≡ Some x)
-get_within [] k low = absurd (omega arith)
-get_within (x ∷ xs) zero low = (x, refl)
-get_within (x ∷ xs) (suc k) low = get_within xs k (omega arith)
+use Rattle.dmr_pdu.proofs.ListLaws.{get_within}
 
 pub at_place : {A B : Type 0} (f : A → B) (xs : List A) (k : ℕ) (x : A) → slice_get xs k ≡ Some x → slice_get (map f xs) k ≡ Some (f x)
 at_place f xs k x here = slice_get-map f xs k ∙ ap (option_map f) here
@@ -58,9 +54,6 @@ module _ (whole : (m n : WorkState) (steps : List Step) (answers : List Answer) 
         passed = λ passages passed. passed_since s.passed t.passed (passages_in (happened_of steps)) passages did.happens.gate fresh.passed
             passed;
       }
-
-pub no_record : (passages : List Passage) → None ≡ Some passages → ⊥
-no_record passages is = cc
 
 -- ---- the ticker
 

@@ -1,7 +1,7 @@
 -- The steps of the worked term's workers.
 use Rattle.std.proofs.Common.{◌≡◌, ℕ, true, false, List, [], ◌∷◌, ◌++◌, Some, None, refl, sym, arith}
 use Rattle.std.proofs.lemmas.List.{append-nil}
-use Rattle.std.proofs.lemmas.Option.{same_Some}
+use Rattle.std.proofs.lemmas.Option.{same_Some, none-some}
 use Rattle.dmr_core.specs.declared.event.Event.TheVariants.{Lost, Poll, Up}
 use Rattle.dmr_frames.specs.declared.frame.Cause.TheVariants.{UnknownType}
 use Rattle.dmr_frames.specs.declared.version.Version.TheVariants.{V1}
@@ -14,18 +14,19 @@ use Rattle.dmr_link.specs.declared.stream.Peer.TheVariants.{Carrier, Operator}
 use Rattle.dmr_link.specs.Happenings.{Happening, Answered, Deposited, Passed, answers_in}
 use Rattle.dmr_link.specs.Notices.{Accepted, Happened}
 use Rattle.dmr_link.specs.Passages.{Entered, Left, Passage, Passes}
-use Rattle.dmr_link.specs.Sessions.{CutAfter, HasPast, IsLeftBy, IsOver, KeepsTurns, Session, new_session, progress_after_answers, progress_at}
+use Rattle.dmr_link.specs.Sessions.{CutAfter, HasPast, IsLeftBy, IsOver, KeepsTurns, Session, new_session, progress_after_answers}
+use Rattle.dmr_link.specs.Sessions.{progress_at}
 use Rattle.dmr_desk.specs.declared.ending.Ending.TheVariants as ending
 use Rattle.dmr_desk.specs.Term.{HasWorked}
 use Rattle.dmr_desk.specs.Views.{view_of}
 use Rattle.dmr_desk.specs.Work.{IsCall, IsOrderly, deposits_of_sessions, past_after, station_state}
-use Rattle.test_witness.specs.Worked.{bad_octet, carrier_0, carrier_1, cut_link, deposit, done, faulty_link, hello_0, hello_1, journal, new_link, passages, poll, record_0, record_1, steps_0, steps_1, steps_of_console, welcome}
-use Rattle.test_witness.proofs.WorkedLinks.{IsDone, closes_fault_1, going_session, goes_0, goes_hello_1, goes_poll_1, idle_going, left_fault_1, means_cut_0, means_fault_1, means_hello_0, means_hello_1, means_poll_1, new_over, nothing_0, nothing_1, of_newest, opens_0, opens_1, were_served, whole_going}
+use Rattle.test_witness.specs.Worked.{bad_octet, carrier_0, carrier_1, cut_link, deposit, done, faulty_link, hello_0, hello_1, journal}
+use Rattle.test_witness.specs.Worked.{new_link, passages, poll, record_0, record_1, steps_0, steps_1, steps_of_console, welcome}
+use Rattle.test_witness.proofs.WorkedLinks.{IsDone, closes_fault_1, going_session, goes_0, goes_hello_1, goes_poll_1, idle_going}
+use Rattle.test_witness.proofs.WorkedLinks.{left_fault_1, means_cut_0, means_fault_1, means_hello_0, means_hello_1, means_poll_1, new_over}
+use Rattle.test_witness.proofs.WorkedLinks.{nothing_0, nothing_1, of_newest, opens_0, opens_1, were_served, whole_going}
 
 -- ---- records that were empty at the start, and a gate without one
-
-none_is_not_some : (whole : List Passage) → None ≡ Some whole → ⊥
-none_is_not_some whole told = cc
 
 all_reported : (answers : List Answer) → Reports (Some []) answers (Some answers)
 all_reported answers = record { follows = λ whole told. ([], refl, sym (same_Some answers whole told)) }
@@ -34,7 +35,7 @@ all_passed : (passages : List Passage) → Passes (Some []) passages (Some passa
 all_passed passages = record { follows = λ whole told. ([], refl, sym (same_Some passages whole told)) }
 
 no_gate : Passes None [] None
-no_gate = record { follows = λ whole told. absurd (none_is_not_some whole told) }
+no_gate = record { follows = λ whole told. absurd (none-some whole told) }
 
 -- ---- carrier 0
 

@@ -1,8 +1,8 @@
 -- The worked term as a whole.
-use Rattle.std.proofs.Common.{◌≡◌, ℕ, zero, suc, ◌<◌, List, [], ◌∷◌, Some, None, slice_get, length, refl, reverse, sym, ◌∙◌, subst, arith}
+use Rattle.std.proofs.Common.{◌≡◌, ℕ, zero, suc, ◌<◌, List, [], ◌∷◌, Some, slice_get, length, refl, reverse, sym, ◌∙◌, subst, arith}
 use Rattle.std.specs.List.{All}
 use Rattle.std.proofs.lemmas.List.Elements.{All-nil, All-cons}
-use Rattle.std.proofs.lemmas.Option.{same_Some, slice_get_within}
+use Rattle.std.proofs.lemmas.Option.{same_Some, slice_get_within, none-some}
 use Rattle.dmr_plan.specs.declared.settings.Settings.{Settings}
 use Rattle.dmr_core.specs.declared.entry.Entry.{Entry}
 use Rattle.dmr_core.specs.declared.event.Event.TheVariants.{Lost, Poll, Tick, Up}
@@ -19,9 +19,6 @@ use Rattle.test_witness.specs.Worked.{deposit, end as end_with, entry, journal, 
 use Rattle.test_witness.proofs.WorkedCarriers.{worked_0, worked_1, worked_console}
 
 -- ---- what is not there
-
-past_end : {A : Type 0} (x : A) → None ≡ Some x → ⊥
-past_end x h = cc
 
 -- the work of the actor whose states and ending these are
 work_of : (s0 s t0 t : StationState) (view : List Deposit) (e0 e : Ending) → Some s0 ≡ Some s → Some t0 ≡ Some t → Some e0 ≡ Some e →
@@ -62,7 +59,7 @@ module _ (others : Settings) where
       slice_get end.ends k ≡ Some e → HasWorked s t (view_of k journal) e
   carriers zero s t e here there why = work_of _ s _ t (view_of 0 journal) ending.Finished e here there why worked_0
   carriers (suc zero) s t e here there why = work_of _ s _ t (view_of 1 journal) ending.Finished e here there why worked_1
-  carriers (suc (suc k)) s t e here there why = absurd (past_end s here)
+  carriers (suc (suc k)) s t e here there why = absurd (none-some s here)
 
   ticked : HasTicked start.pacer end.pacer (view_of 2 journal) ending.Finished
   ticked = (

@@ -1,5 +1,6 @@
 use Rattle.dmr_desk.specs.Work.{IsAtWork}
-use Rattle.dmr_desk.proofs.WorkerLemmas.{same_calls, same_station_state, going_over, unquestioned, went_idle, went_paused, went_refused, went_shut, went_closed}
+use Rattle.dmr_desk.proofs.WorkerLemmas.{same_calls, same_station_state, going_over, unquestioned, went_idle, went_paused, went_refused}
+use Rattle.dmr_desk.proofs.WorkerLemmas.{went_shut, went_closed}
 use Rattle.dmr_desk.proofs.work.serve_once.Goals as goal
 
 pub returns-then-over-clause-goes : goal.returns-then-over-clause-goes

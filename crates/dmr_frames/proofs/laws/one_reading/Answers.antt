@@ -1,4 +1,5 @@
-use Rattle.dmr_frames.proofs.FrameLaws.{readings-same, reads_all, reads_on, open-produces, spelling-produces, frames_from-append, rest_after_octets-append}
+use Rattle.dmr_frames.proofs.FrameLaws.{readings-same, reads_all, reads_on, open-produces, spelling-produces, frames_from-append}
+use Rattle.dmr_frames.proofs.FrameLaws.{rest_after_octets-append}
 use Rattle.dmr_frames.proofs.laws.one_reading.Goals as goal
 
 pub returns-clause-one : goal.returns-clause-one

@@ -8,7 +8,8 @@ use Rattle.dmr_frames.specs.Rest.{Rest, Open}
 use Rattle.dmr_frames.specs.Stream.{IsOpen}
 use Rattle.dmr_frames.specs.Reading.{step_at, step_from, rest_after_octet, rest_after}
 use Rattle.dmr_frames.proofs.ReadingLemmas.{open_nothing}
-use Rattle.dmr_frames.proofs.OneFrameLemmas.{front_of, last_of, front-last, small-front_of, step-in_front, step-after_front, open-after_need, spelled-at_frame}
+use Rattle.dmr_frames.proofs.OneFrameLemmas.{front_of, last_of, front-last, small-front_of, step-in_front, step-after_front}
+use Rattle.dmr_frames.proofs.OneFrameLemmas.{open-after_need, spelled-at_frame}
 use Rattle.dmr_frames.proofs.whole.whole_frame.Goals as goal
 
 pub loop-octet-init : goal.loop-octet-init

@@ -1,7 +1,8 @@
 use Rattle.std.proofs.Common.{Bool, cond, ap, arith, ◌∙◌}
 use Rattle.std.specs.List.{list_any}
 use Rattle.dmr_core.specs.declared.entry.Entry.{Entry}
-use Rattle.dmr_keeper.specs.Counts.{is_active, is_begun, is_command, is_granting, is_heard, is_joined, is_late_entry, is_noise, is_poll, is_refusing, is_request}
+use Rattle.dmr_keeper.specs.Counts.{is_active, is_begun, is_command, is_granting, is_heard, is_joined, is_late_entry, is_noise, is_poll}
+use Rattle.dmr_keeper.specs.Counts.{is_refusing, is_request}
 use Rattle.dmr_keeper.specs.Ticks.{is_tick}
 use Rattle.dmr_keeper.proofs.LoopLemmas.{count_stays}
 use Rattle.dmr_keeper.proofs.counts.counts_of.Goals as goal

@@ -1,5 +1,6 @@
 use Rattle.std.proofs.Common.{◌≡◌, ◌+◌, ◌≤◌, drop}
-use Rattle.dmr_keeper.specs.Counts.{entries_with, events_that, is_active, is_begun, is_command, is_granting, is_heard, is_joined, is_late_entry, is_noise, is_poll, is_refusing, is_request}
+use Rattle.dmr_keeper.specs.Counts.{entries_with, events_that, is_active, is_begun, is_command, is_granting, is_heard, is_joined}
+use Rattle.dmr_keeper.specs.Counts.{is_late_entry, is_noise, is_poll, is_refusing, is_request}
 use Rattle.dmr_keeper.specs.Ticks.{is_tick}
 use Rattle.dmr_keeper.proofs.counts.counts_of.Given as goal
 

@@ -1,6 +1,6 @@
-use Rattle.dmr_link.proofs.WritesFollow.{reports_none, reports_more}
 use Rattle.dmr_link.proofs.StepsFollow.{happens_none, happens_more}
 use Rattle.dmr_link.proofs.link_laws.happenings_follow.Goals as goal
+use Rattle.dmr_wire.proofs.ReportLaws.{reports_none, reports_more}
 
 pub returns-clause-none : goal.returns-clause-none
 returns-clause-none c = happens_none

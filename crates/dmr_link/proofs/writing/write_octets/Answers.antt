@@ -2,7 +2,8 @@ use Rattle.std.proofs.Common.{arith, refl, sym, drop, ◌≤◌, length}
 use Rattle.std.proofs.lemmas.Bool.{eqb-true}
 use Rattle.std.proofs.lemmas.List.{length-drop, nil_from_length, take_rest}
 use Rattle.dmr_wire.specs.Answers.{WriteInterrupted, WriteBlocked, WriteFailed}
-use Rattle.dmr_link.proofs.WritesFollow.{putting_none, putting_on, putting_again, writes_part, fault_failed, fault_blocked, fault_impatient, writes_nothing, writes_empty, writes_end, some_octets}
+use Rattle.dmr_link.proofs.WritesFollow.{putting_none, putting_on, putting_again, writes_part, fault_failed, fault_blocked, fault_impatient}
+use Rattle.dmr_link.proofs.WritesFollow.{writes_nothing, writes_empty, writes_end, some_octets}
 use Rattle.dmr_link.proofs.writing.write_octets.Goals as goal
 
 pub returns-then-is_empty : goal.returns-then-is_empty

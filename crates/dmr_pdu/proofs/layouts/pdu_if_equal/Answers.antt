@@ -5,7 +5,8 @@ use Rattle.dmr_pdu.specs.declared.pdu.Pdu.{Pdu}
 use Rattle.dmr_pdu.specs.Layout.{IsLaidOut}
 use Rattle.dmr_pdu.proofs.LayoutLemmas.{laid_out-read, some-same}
 use Rattle.dmr_pdu.proofs.PackedLemmas.{number-laid_out, has_number-octets}
-use Rattle.dmr_pdu.proofs.layouts.pdu_if_equal.Goals.{else-octets-eq0-via-then-octets-eq0+else-rows_of-number, else-octets-eq0-via-else-octets-eq0}
+use Rattle.dmr_pdu.proofs.layouts.pdu_if_equal.Goals.{else-octets-eq0-via-then-octets-eq0+else-rows_of-number}
+use Rattle.dmr_pdu.proofs.layouts.pdu_if_equal.Goals.{else-octets-eq0-via-else-octets-eq0}
 use Rattle.dmr_pdu.proofs.layouts.pdu_if_equal.Goals as goal
 
 pub returns-then-rows_of-number-clause-found : goal.returns-then-rows_of-number-clause-found

@@ -2,8 +2,8 @@
 
 use crate::language::words::write_call;
 use dmr_keeper::{
-    CarrierCounts, Change, ChangeKind, EndCause, EndedCall, InMemory, Note, Occurrence, OpenCall,
-    Outcome, TermCounts,
+    CarrierCounts, Change, ChangeKind, CommandOutcome, EndCause, EndedCall, InMemory, Occurrence,
+    OpenCall, TermCounts, TimedOccurrence,
 };
 use dmr_pdu::{Address, OutOfMemory};
 
@@ -93,7 +93,7 @@ pub fn write_changes(said: &mut String, changes: &[Change]) -> Result<(), OutOfM
 }
 
 /// Writes notes.
-pub fn write_notes(said: &mut String, notes: &[Note]) -> Result<(), OutOfMemory> {
+pub fn write_notes(said: &mut String, notes: &[TimedOccurrence]) -> Result<(), OutOfMemory> {
     for note in notes {
         write_mark(said)?;
         write_occurrence(said, &note.what)?;
@@ -125,13 +125,13 @@ fn write_occurrence(said: &mut String, what: &Occurrence) -> Result<(), OutOfMem
 }
 
 /// Returns the words for the result of a command, after a space.
-fn outcome_word(outcome: Outcome) -> &'static str {
+fn outcome_word(outcome: CommandOutcome) -> &'static str {
     match outcome {
-        Outcome::Done => " done",
-        Outcome::NotRegistered => " not registered",
-        Outcome::Busy => " busy",
-        Outcome::NoCall => " no call",
-        Outcome::NoCarrier => " no carrier",
+        CommandOutcome::Done => " done",
+        CommandOutcome::NotRegistered => " not registered",
+        CommandOutcome::Busy => " busy",
+        CommandOutcome::NoCall => " no call",
+        CommandOutcome::NoCarrier => " no carrier",
     }
 }
 

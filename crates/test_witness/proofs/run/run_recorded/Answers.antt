@@ -1,13 +1,13 @@
 use Rattle.std.proofs.Common.{◌≡◌, ◌+◌, ◌⊎◌, ℕ, [], None, length, refl, sym, ◌∙◌, subst}
 use Rattle.std.proofs.lemmas.List.{length-map}
-use Rattle.std.proofs.lemmas.Option.{same_Some}
+use Rattle.std.proofs.lemmas.Option.{same_Some, none-some}
 use Rattle.std.proofs.lemmas.Result.{IfOk-weaker}
 use Rattle.dmr_wire.specs.Recording.{reported_by}
 use Rattle.dmr_desk.specs.Pace.{AreTicks}
 use Rattle.dmr_desk.specs.Views.{view_of}
 use Rattle.dmr_desk.specs.Work.{station_state}
 use Rattle.test_witness.specs.Session.{IsWholeSession}
-use Rattle.test_witness.proofs.SessionLemmas.{at_place, no_record, ticks_of}
+use Rattle.test_witness.proofs.SessionLemmas.{at_place, ticks_of}
 use Rattle.test_witness.proofs.run.run_recorded.Goals as goal
 
 pub returns-clause-carriers : goal.returns-clause-carriers
@@ -24,7 +24,7 @@ returns-clause-operators g c = IfOk-weaker c.run_term.result _ _
     (view_of (n + 1) t.report.journal) in
     subst P (length-map c.args.stations.items _ ∙ sym c.args.stations.ok.0)
     (c.one_session.ensures.operators _ _ answers term
-    (record { link = link; reported = reported; passed = λ passages is. absurd (no_record passages is) }) told))
+    (record { link = link; reported = reported; passed = λ passages is. absurd (none-some passages is) }) told))
     c.run_term.ensures.term
 
 pub returns-clause-ticks : goal.returns-clause-ticks

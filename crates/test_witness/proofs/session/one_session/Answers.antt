@@ -1,7 +1,8 @@
 use Rattle.std.proofs.Common.{length, ◌+◌, arith}
 use Rattle.std.proofs.lemmas.Option.{slice_get_within}
 use Rattle.dmr_desk.specs.Views.{view_of}
-use Rattle.test_witness.proofs.SessionLemmas.{get_within, session}
+use Rattle.dmr_pdu.proofs.ListLaws.{get_within}
+use Rattle.test_witness.proofs.SessionLemmas.{session}
 use Rattle.test_witness.proofs.session.one_session.Goals as goal
 
 pub returns-clause-carrier : goal.returns-clause-carrier

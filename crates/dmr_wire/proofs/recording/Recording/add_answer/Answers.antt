@@ -3,7 +3,8 @@ use Rattle.std.proofs.lemmas.Grind.{common_steps}
 use Rattle.dmr_wire.specs.Answers.{Answer}
 use Rattle.dmr_wire.specs.Recording.{Recording, octets_of_answer, has_room_for}
 use Rattle.dmr_wire.specs.Entries.{IsStored, came_with, taken_with, answer_of, answers_of_entries}
-use Rattle.dmr_wire.proofs.RecordingLemmas.{room_for_an_answer, octets_of_answer-answer_of, answers_of_entries-push, stored_push, recording_with-kept}
+use Rattle.dmr_wire.proofs.RecordingLemmas.{room_for_an_answer, octets_of_answer-answer_of, answers_of_entries-push, stored_push}
+use Rattle.dmr_wire.proofs.RecordingLemmas.{recording_with-kept}
 use Rattle.dmr_wire.proofs.recording.Recording.add_answer.Goals as goal
 
 pub unwrap-requires : goal.unwrap-requires

@@ -106,7 +106,7 @@ begun_all plan sessions are = record {
   where
     closed : (c : ℕ) → connection_in (get_or sessions c None) ≡ Closed
     closed c = sym (read_connection sessions c) ∙ ap (λ (ks : List Connection). get_or ks c Closed) are.none
-        ∙ replicated {A = Connection} 16 c Closed
+        ∙ replicated {X = Connection} 16 c Closed
 
 -- ---- one of the states changes
 

@@ -223,6 +223,6 @@ all_have_past s past (i ∷ is) fit h =
 
 pub none_has_past : (s : State) → s.connections ≡ replicate 16 Closed → s.console ≡ [] → HasPast s no_past
 none_has_past s e f = record {
-  connections = λ c who g. ap (λ (ks : List Connection). get_or ks c Closed) e ∙ replicated {A = Connection} 16 c Closed;
+  connections = λ c who g. ap (λ (ks : List Connection). get_or ks c Closed) e ∙ replicated {X = Connection} 16 c Closed;
   console = f;
 }

@@ -4,7 +4,7 @@ ghost use Rattle.std.specs.Prelude.{◌≡◌, true, false, not, [], ◌∷◌, 
 ghost use Rattle.dmr_wire.specs.Answers.{Reports, of_connect, of_wait};
 ghost use Rattle.dmr_link.specs.Sessions.{Session, new_session, HasPast, IsOver, Serves, Cuts};
 ghost use Rattle.dmr_link.specs.LinkSteps.{is_live};
-ghost use Rattle.dmr_link.specs.Desks.{HasRefused};
+ghost use Rattle.dmr_link.specs.Desks.{HasRefused, HasRefusedWith};
 ghost use Rattle.dmr_desk.specs.Work.{StationState, Answers, ChangesLink, sides_at};
 
 use dmr_link::{ConsoleLink, Desk, Ended, Gate, Link, TermOver};
@@ -77,7 +77,7 @@ pub trait Serving {
         ensures cuts { Cuts (state self.old).link (state self.new).link (D.calls desk.old)
             (D.calls desk.new) }
         ensures done { IfOk result (λ _. IsOver (state self.new).link) }
-        ensures over { IfErr result (λ over. HasRefused D.Desk desk.new) };
+        ensures over { IfErr result (λ over. HasRefusedWith D.Desk over desk.new) };
 
     /// Reports to the port how the link's connection was closed.
     fn report_closing(&mut self)

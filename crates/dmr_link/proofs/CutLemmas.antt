@@ -9,7 +9,7 @@ use Rattle.dmr_link.specs.declared.ended.Ended.TheVariants.{Closed}
 use Rattle.dmr_link.specs.declared.link_state.LinkState.{LinkState}
 use Rattle.dmr_link.specs.Closing.{ended_of}
 use Rattle.dmr_link.specs.Cutting.{CutsOff, Opens}
-use Rattle.dmr_link.specs.Desks.{HasRefused, KeepsDesk}
+use Rattle.dmr_link.specs.Desks.{HasRefusedWith, KeepsDesk}
 use Rattle.dmr_link.specs.Happenings.{Disordered}
 use Rattle.dmr_link.specs.LinkSteps.{cut_state, is_live, with_new_connection}
 use Rattle.dmr_link.specs.Moves.{Moves, moment}
@@ -47,8 +47,8 @@ done_by l new (Ok done) none same closing =
     (record { connection = ap is_going same; kept = none.0; lost = none.1 }, ap ended_of closing)
 done_by l new (Err over) none same closing = tt
 
-over_by : (P Q : Type 0) (result : Result (Unit {0}) TermOver) → IfErr result (λ over. Q) → IfErr result (λ over. P) →
-    IfErr result (λ over. P × Q)
+over_by : (P : Type 0) (Q : TermOver → Type 0) (result : Result (Unit {0}) TermOver) → IfErr result Q →
+    IfErr result (λ over. P) → IfErr result (λ over. P × Q over)
 over_by P Q (Ok done) refused live = tt
 over_by P Q (Err over) refused live = (live, refused)
 
@@ -57,13 +57,13 @@ pub cuts_off : {D : Type 0} {its : Desk D} {d e : D} (l new : LinkState) (result
     ((reported : Option (List Answer)) (passed : Option (List Passage)) →
     Moves (moment (cut_state l) (sides reported (its.calls d) passed) 0 Disordered)
     (moment new (sides reported (its.calls e) passed) 0 Disordered) 0) →
-    IfOk result (λ done. (new.pending.kept ≡ None) × (new.pending.lost ≡ None)) → IfErr result (λ over. HasRefused its e) →
+    IfOk result (λ done. (new.pending.kept ≡ None) × (new.pending.lost ≡ None)) → IfErr result (λ over. HasRefusedWith its over e) →
     IfErr result (λ over. is_live new ≡ true) → new.connection ≡ (cut_state l).connection →
     new.closing ≡ (cut_state l).closing → CutsOff its l new d e result
 cuts_off {its = its} {d = d} {e = e} l new result live keeps moves ok over still same closing = record {
   keeps = keeps;
   cuts = λ is. cuts l new (its.calls d) (its.calls e) live moves;
   done = λ is. done_by l new result ok same closing;
-  over = over_by (is_live new ≡ true) (HasRefused its e) result over still;
+  over = over_by (is_live new ≡ true) (λ over. HasRefusedWith its over e) result over still;
   none = λ dead. absurd (false≢true (sym dead ∙ live));
 }

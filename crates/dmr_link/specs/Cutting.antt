@@ -5,7 +5,7 @@ use Rattle.dmr_link.specs.declared.desk.TermOver.{TermOver}
 use Rattle.dmr_link.specs.declared.ended.Ended.TheVariants.{Closed}
 use Rattle.dmr_link.specs.declared.link_state.LinkState.{LinkState}
 use Rattle.dmr_link.specs.Closing.{ended_of}
-use Rattle.dmr_link.specs.Desks.{HasRefused, KeepsDesk}
+use Rattle.dmr_link.specs.Desks.{HasRefusedWith, KeepsDesk}
 use Rattle.dmr_link.specs.LinkSteps.{is_live}
 use Rattle.dmr_link.specs.Sessions.{Session, new_session, Cuts, HasPast, IsOver}
 
@@ -22,5 +22,5 @@ pub record CutsOff {D : Type 0} (its : Desk D) (old new : LinkState) (desk later
   pub keeps : KeepsDesk its desk later
   pub cuts : is_live old ≡ true → Cuts old new (its.calls desk) (its.calls later)
   pub done : is_live old ≡ true → IfOk result (λ done. IsOver new × (ended_of new.closing ≡ Closed))
-  pub over : IfErr result (λ over. (is_live new ≡ true) × HasRefused its later)
+  pub over : IfErr result (λ over. (is_live new ≡ true) × HasRefusedWith its over later)
   pub none : is_live old ≡ false → (result ≡ Ok tt) × (new ≡ old) × (later ≡ desk)

@@ -9,6 +9,11 @@ pub record KeepsDesk {D : Type 0} (its : Desk D) (old new : D) : Type 0 where
   pub actor : its.actor new ≡ its.actor old
   pub questions : its.questions new ≡ its.questions old
 
+-- it refused an event with this reason, and is as it then was
+abbrev pub HasRefusedWith : {D : Type 0} → Desk D → TermOver → D → Type 0
+HasRefusedWith {D = D} its over desk =
+    (before : D) × (event : Event) × its.refuses before event over desk
+
 -- it refused an event, and is as it then was
 abbrev pub HasRefused : {D : Type 0} → Desk D → D → Type 0
 HasRefused {D = D} its desk =

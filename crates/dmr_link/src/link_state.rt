@@ -4,7 +4,7 @@ ghost use Rattle.std.specs.Prelude.{◌≡◌, ◌+◌, ◌<◌, ◌≤◌, List
 ghost use Rattle.std.specs.Prelude.{option_map, length, true, false, IfOk, IfErr};
 ghost use Rattle.dmr_wire.specs.Answers.{Answer as PortAnswer};
 ghost use Rattle.dmr_link.specs.declared.desk.Deposit.{Deposit as ADeposit};
-ghost use Rattle.dmr_link.specs.Desks.{HasRefused, KeepsDesk};
+ghost use Rattle.dmr_link.specs.Desks.{HasRefusedWith, KeepsDesk};
 ghost use Rattle.dmr_link.specs.Happenings.{Outside, Disordered, stage_after};
 ghost use Rattle.dmr_link.specs.Limits.{most_interruptions};
 ghost use Rattle.dmr_link.specs.Moves.{Moves, moment};
@@ -389,7 +389,7 @@ impl LinkState {
             (moment self.new (sides reported (D.calls desk.new) passed) 0 Disordered) 0 }
         ensures ok { IfOk result (λ _. (self.new.pending.kept ≡ None)
             × (self.new.pending.lost ≡ None)) }
-        ensures over { IfErr result (λ over. HasRefused D.Desk desk.new) }
+        ensures over { IfErr result (λ over. HasRefusedWith D.Desk over desk.new) }
         ensures live { IfErr result (λ _. is_live self.new ≡ true) }
         ensures connection { self.new.connection ≡ self.old.connection }
         ensures closing { self.new.closing ≡ self.old.closing }

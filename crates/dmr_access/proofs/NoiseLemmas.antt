@@ -1,5 +1,5 @@
 -- The noise numbers after a Noise and after a Poll, and their sum.
-use Rattle.std.proofs.Common.{◌≡◌, ℕ, ◌+◌, ◌-◌, ◌*◌, ◌≤◌, ◌<◌, min, List, [], ◌∷◌, Option, Some, None, length, take, sum, get_or, refl, sym}
+use Rattle.std.proofs.Common.{◌≡◌, ℕ, ◌+◌, ◌-◌, ◌≤◌, min, List, [], ◌∷◌, Some, None, length, take, sum, get_or, refl, sym}
 use Rattle.std.proofs.Common.{ap, ◌∙◌, arith, inr}
 use Rattle.std.specs.Prelude.{slice_get}
 use Rattle.std.specs.List.{All}

@@ -28,7 +28,7 @@ use Rattle.dmr_core.specs.Facts.{Facts, has_carrier}
 use Rattle.dmr_core.specs.Words.{has_room, is_registered, is_up, lowest_free, lpcn_of, outbox}
 use Rattle.dmr_core.specs.Rules.{ack, acts_of, ahoy, acts_for_called_radio, begin, call_of_line, acts_for_cancel, clear, close}
 use Rattle.dmr_core.specs.Rules.{answer_to_command, acts_for_due_call, grant, grant_pdu, acts_for_pdu, acts_for_individual_request}
-use Rattle.dmr_core.specs.Rules.{late_entry, acts_for_leaving, acts_for_new_call, acts_for_slot, acts_for_registration, acts_for_due_ask}
+use Rattle.dmr_core.specs.Rules.{acts_for_leaving, acts_for_new_call, acts_for_slot, acts_for_registration, acts_for_due_ask}
 use Rattle.dmr_core.specs.Rules.{acts_for_request, acts_for_outbox, acts_for_line, acts_for_talkgroup_request, acts_for_tick}
 use Rattle.dmr_core.specs.Sound.{IsSound, total}
 use Rattle.dmr_core.specs.Counts.{AreFewActs, elsewhere, on_control}

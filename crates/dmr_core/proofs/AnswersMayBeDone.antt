@@ -33,7 +33,7 @@ use Rattle.dmr_core.specs.declared.act.Act.TheVariants.{AskOver, Asked, Fill, Jo
 use Rattle.dmr_core.specs.Facts.{Facts, facts_after_act, facts_after_event, has_carrier}
 use Rattle.dmr_core.specs.Words.{has_room, is_engaged, is_free, is_registered, is_up, lowest_free, lpcn_of, outbox, has_call_on}
 use Rattle.dmr_core.specs.Rules.{ack, acts_of, ahoy, acts_for_called_radio, begin, call_of_line, acts_for_cancel, clear, close}
-use Rattle.dmr_core.specs.Rules.{answer_to_command, acts_for_due_call, grant, acts_for_pdu, acts_for_individual_request, late_entry}
+use Rattle.dmr_core.specs.Rules.{answer_to_command, acts_for_due_call, grant, acts_for_pdu, acts_for_individual_request}
 use Rattle.dmr_core.specs.Rules.{acts_for_leaving, acts_for_new_call, acts_for_slot, acts_for_registration, acts_for_due_ask}
 use Rattle.dmr_core.specs.Rules.{acts_for_request, acts_for_outbox, acts_for_line, acts_for_tick}
 use Rattle.dmr_core.specs.Sound.{IsSound, engagements, engagements_in_ask, engagements_in_line, is_grant, party}

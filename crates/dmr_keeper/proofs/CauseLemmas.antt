@@ -15,7 +15,7 @@ use Rattle.dmr_core.specs.declared.event.Event.TheVariants.{Heard, Poll, Tick, S
 use Rattle.dmr_core.specs.declared.act.Act.TheVariants.{Fill}
 use Rattle.dmr_core.specs.Facts.{Facts}
 use Rattle.dmr_core.specs.Rules.{next_fill}
-use Rattle.dmr_core.specs.Rules.{acts_for_outbox, acts_for_slot, acts_of, answer_to_command, late_entry}
+use Rattle.dmr_core.specs.Rules.{acts_for_outbox, acts_for_slot, acts_of, answer_to_command}
 use Rattle.dmr_core.specs.Words.{is_up, outbox}
 use Rattle.dmr_keeper.specs.Laws.{MayEndCalls, is_end}
 

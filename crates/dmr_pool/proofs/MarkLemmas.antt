@@ -86,7 +86,11 @@ held_not_free lists up outboxes holds slot h =
 pub waiting_not_free : (lists : ListSection) (up : List Bool) (outboxes : List (List Pdu)) (holds : Slot → Bool) (slot : Slot)
     → is_empty (box outboxes slot) ≡ false → is_free_by lists up outboxes holds slot ≡ false
 waiting_not_free lists up outboxes holds slot h =
-    rw (h, and-false (has_number_in lists.carriers slot.carrier && is_up up slot.carrier && not (is_control lists slot) && not (holds slot)))
+    rw (
+      h,
+      and-false (has_number_in lists.carriers slot.carrier && is_up up slot.carrier && not (is_control lists slot) && not
+          (holds slot)),
+    )
     refl
 
 pub granted_not_free : (lists : ListSection) (up : List Bool) (outboxes : List (List Pdu)) (holds : Slot → Bool) (slot : Slot)

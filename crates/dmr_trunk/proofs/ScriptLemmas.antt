@@ -17,7 +17,8 @@ refuses_making file lines NotWritten none making = absurd (false≢true making)
 refuses_making file lines Removed none making = absurd (false≢true making)
 
 -- the disk refuses lines
-pub refuses_writing : (file : RecordingFile) (lines : List ℕ) (fault : ScriptFileFault) → is_of_disk fault ≡ true → MayRefuse file lines fault
+pub refuses_writing : (file : RecordingFile) (lines : List ℕ) (fault : ScriptFileFault) → is_of_disk fault ≡ true →
+    MayRefuse file lines fault
 refuses_writing file lines Full disk = disk
 refuses_writing file lines NotWritten disk = disk
 refuses_writing file lines Removed disk = disk

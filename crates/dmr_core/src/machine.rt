@@ -175,7 +175,6 @@ impl Machine {
     #[tactic(auto, using(crate::proofs::HeldLemmas::lost))]
     // Out of line: an event of another kind then does not clear this function's locals.
     #[inline(never)]
-    #[cold]
     fn apply_up(&mut self, carrier: CarrierNo)
         ensures { self.new ≡ record {
           plan = self.old.plan;
@@ -202,7 +201,6 @@ impl Machine {
     #[tactic(auto, using(crate::proofs::HeldLemmas::lost))]
     // Out of line: an event of another kind then does not clear this function's locals.
     #[inline(never)]
-    #[cold]
     fn apply_lost(&mut self, lost: CarrierNo)
         ensures { self.new ≡ record {
           plan = self.old.plan;
@@ -328,7 +326,6 @@ impl Machine {
     /// Makes `acts` the answer to a command.
     // Out of line: an event of another kind then does not clear the room of the answer that is returned here.
     #[inline(never)]
-    #[cold]
     fn answer_command_to(&self, command: &Command, acts: &mut Acts)
         ensures { acts.new ≡ answer_to_command self.now.plan self.now.facts command.now }
     {

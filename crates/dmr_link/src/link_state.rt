@@ -68,8 +68,6 @@ impl LinkState {
     }
 
     /// Closes the connection. If its carrier was up, its Lost becomes pending.
-    // Cold, so that the code of a poll lies together.
-    #[cold]
     fn close(&mut self, closing: Closing)
         ensures { self.new ≡ closed_as self.old closing }
     {
@@ -138,8 +136,6 @@ impl LinkState {
 
     /// Writes the answer to a notice for the peer alone. If a write fails, the connection is closed for that, even if
     /// its octets closed it before.
-    // Cold, as no poll of a carrier that keeps the rules runs it.
-    #[cold]
     fn answer_peer_notice<W: Wire>(&mut self, notice: &PeerNotice, port: &mut W)
         ensures { Replies false self.old (W.reported port.old)
             (peer_notice_text (peer_notice notice.now)) self.old self.new (W.reported port.new) }

@@ -50,8 +50,6 @@ fn write_octets<W: Wire>(port: &mut W, octets: &[u8]) -> bool
 }
 
 /// Writes the text of a reply, if there is one, and returns whether the port took all of it.
-// Cold, as no poll runs it.
-#[cold]
 fn write_reply<W: Wire>(port: &mut W, reply: &Option<Reply>) -> bool
     ensures { WritesText (W.reported port.old) (reply_text reply.now) result (W.reported port.new) }
 {

@@ -58,7 +58,6 @@ impl FirstOctets {
 
 /// Returns whether the octets begin with a method of HTTP (RFC 9110, section 9, and RFC 5789) and a space.
 #[inline(never)]
-#[cold]
 fn begins_http(octets: &[u8]) -> bool
     ensures { result ≡ begins_http octets.now }
 {
@@ -77,7 +76,6 @@ fn begins_http(octets: &[u8]) -> bool
 /// a connection, so its spelling is that of version 1 of the link.
 #[tactic(auto, using(crate::proofs::FirstOctetsLemmas::hello_from_frame))]
 #[inline(never)]
-#[cold]
 fn is_hello(octets: &[u8]) -> bool
     ensures { IsTrue result ↔ IsHello octets.now }
 {

@@ -132,7 +132,6 @@ fn has_lasted(time: Option<u32>, milliseconds: u32) -> bool
 /// Returns how long the line that has not ended has lasted, after octets that came. `None` if they end with a line
 /// feed, and 0 if they have one elsewhere.
 #[inline(never)]
-#[cold]
 fn line_after(line: Option<u32>, octets: &[u8]) -> Option<u32>
     requires { 0 < length octets.now }
     ensures { result ≡ line_after line octets.now }

@@ -69,7 +69,6 @@ impl Unsent {
 
     /// Appends the first octets to the kept ones, as many as there is room for, and returns their number.
     #[inline(never)]
-    #[cold]
     fn keep(&mut self, octets: &[u8]) -> usize
         ensures count { result ≡ min (length octets.now) (65536 - length self.old) }
         ensures octets { self.new ≡ self.old ++ take result octets.now }

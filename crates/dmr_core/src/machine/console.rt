@@ -41,7 +41,6 @@ impl Machine {
     #[tactic(auto, unfolding(crate::specs::Rules::answer_to_command))]
     // Out of line: an event of another kind then does not clear this function's locals.
     #[inline(never)]
-    #[cold]
     pub(super) fn answer_command(&self, command: &Command) -> Acts
         ensures { result ≡ answer_to_command self.now.plan self.now.facts command.now }
     {

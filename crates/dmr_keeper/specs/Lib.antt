@@ -2,7 +2,7 @@ pub mod Causes
 pub mod Ticks
 pub mod Lines
 pub mod Calls
-pub mod Closing
+pub mod Ending
 pub mod Changes
 pub mod Notes
 pub mod Counts

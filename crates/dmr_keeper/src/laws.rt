@@ -85,7 +85,7 @@ pub fn calls_are_counted_once()
         (carried_after plan before journal).calls }
 {}
 
-/// In a site's answers, only a Tick, a PDU, and an operator's `drop` and `end` end calls.
+/// In a site's answers calls end only by a Tick, by a PDU, or by a command that may end calls by its row of the table.
 ///
 /// So [`EndCause`](crate::EndCause) has all causes: a Tick ends calls by their ages, a PDU those of a radio that
 /// leaves, and a command by itself. A carrier's Up and Lost end its calls without an act.

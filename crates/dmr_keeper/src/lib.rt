@@ -18,7 +18,7 @@
 //! open or began, and [`few_events_end_calls`] that the causes are all.
 //!
 //! A [`Recorder`] reads the records of one term after another, each with its [`TermTime`]: when it ended, and how long
-//! its ticks are. An [`RecordQueue`] has the records that wait, and hands them over to a store, oldest term first.
+//! its ticks are. A [`RecordQueue`] has the records that wait, and hands them over to a store, oldest term first.
 //!
 //! A [`Keeper`] stores records. [`Forget`] keeps nothing, and [`InMemory`] keeps them for a test. A store on a disk is
 //! outside of this crate.
@@ -29,8 +29,8 @@ mod carried;
 mod carriers;
 mod cause;
 mod changes;
-mod closing;
 mod counts;
+mod ending;
 mod keeper;
 mod laws;
 mod lines;

@@ -67,7 +67,7 @@ fn hand_all<K: Keeper>(terms: &mut Vec<TimedRecords>, keeper: &mut K) -> Result<
 }
 
 impl RecordQueue {
-    /// Makes an outbox in which nothing waits. Returns `OutOfMemory` if the allocation is refused.
+    /// Makes a queue in which nothing waits. Returns `OutOfMemory` if the allocation is refused.
     pub fn new(alloc: Global) -> Result<RecordQueue, OutOfMemory>
         ensures { IfOk result (λ record_queue. record_queue ≡ []) }
     {
@@ -117,7 +117,7 @@ impl RecordQueue {
         Some(self.terms.remove(0))
     }
 
-    /// Moves all records of another outbox here, after these. If there is no room for all, the oldest are lost for the
+    /// Moves all records of another queue here, after these. If there is no room for all, the oldest are lost for the
     /// store, and it returns for how many terms. It allocates nothing.
     pub fn append(&mut self, later: &mut RecordQueue) -> usize
         ensures moved { self.new ≡ newest (self.old ++ later.old) }

@@ -6,7 +6,7 @@ ghost use Rattle.dmr_keeper.specs.Lines.{lines_after, most_waiting};
 ghost use Rattle.dmr_keeper.specs.Ticks.{ticks_in};
 
 use crate::calls::{EndedCall, OpenCall};
-use crate::closing::apply_to_calls;
+use crate::ending::apply_to_calls;
 use crate::lines::{OpenLine, apply_to_lines};
 use crate::ticks::tick_with;
 use dmr_core::Entry;

@@ -86,17 +86,17 @@ module _ {R O K : Type 0} (kept : K → Option Kept) (refuses : K → TimedRecor
       let start = start_of first in
       let wanted = carried_if_wanted (wants store) (restored plan radios) in
       let last = is.ran.keeping in
-      let ran : AreRun kept refuses start terms (carried_by books) books.keeping books.waiting.outbox is.ran.result last =
-      run_of kept refuses start terms (carried_by books) books.keeping books.waiting.outbox
+      let ran : AreRun kept refuses start terms (carried_by books) books.keeping books.waiting.queue is.ran.result last =
+      run_of kept refuses start terms (carried_by books) books.keeping books.waiting.queue
       (start_in_row (λ port. None) (λ gate. None) (λ pacer. None) (λ port. None) first) is.ran.result last is.served.run is.served.fault
       is.served.memory in
-      let run : AreRun kept refuses start terms (carried_by books) books.keeping books.waiting.outbox left.result last =
-      run_left kept refuses start terms (carried_by books) books.keeping books.waiting.outbox is.ran.result left.result last is.ended
+      let run : AreRun kept refuses start terms (carried_by books) books.keeping books.waiting.queue left.result last =
+      run_left kept refuses start terms (carried_by books) books.keeping books.waiting.queue is.ran.result left.result last is.ended
       ran in
       let same : first.site.facts.registered ≡ restored plan radios = ap (λ (site : SiteState). site.facts.registered) opened.site in
-      let P : Option Carry → Type 0 = λ carried. AreRun kept refuses start terms carried books.keeping books.waiting.outbox left.result
+      let P : Option Carry → Type 0 = λ carried. AreRun kept refuses start terms carried books.keeping books.waiting.queue left.result
       last in
-      let Q : Keeping K → Type 0 = λ keeping. AreRun kept refuses start terms wanted keeping books.waiting.outbox left.result last in
+      let Q : Keeping K → Type 0 = λ keeping. AreRun kept refuses start terms wanted keeping books.waiting.queue left.result last in
       let S : List TimedRecords → Type 0 = λ waiting. AreRun kept refuses start terms wanted (idle_store store) waiting left.result last in
       let T : Keeping K → Type 0 = λ keeping. AreRun kept refuses start terms wanted (idle_store store) [] left.result keeping in
       let all = subst T (sym is.keeping)

@@ -74,7 +74,7 @@ abbrev pub IsUnderWay : {K : Type 0} → (K → Option Kept) → Start → ℕ �
 IsUnderWay kept start n next seen seen_then begun now first waiting store waiting_now =
     (run : HaveRun start n next seen seen_then)
     × IsCarried start.site.plan begun now (journals_of run.ends)
-    × HaveStored start.site.plan begun (journals_of run.ends) (kept first.keeper) (first.outbox ++ waiting) (store.outbox ++ waiting_now)
+    × HaveStored start.site.plan begun (journals_of run.ends) (kept first.keeper) (first.queue ++ waiting) (store.queue ++ waiting_now)
     (kept store.keeper)
 
 pub way_begins : {K : Type 0} (kept : K → Option Kept) (start : Start) (seen : Option (List (List Entry))) (begun : Option Carry)
@@ -83,7 +83,7 @@ way_begins kept start seen begun first waiting = (
   run_none start seen,
   carried_at_first start.site.plan begun,
   stored_at_first start.site.plan begun (kept first.keeper)
-      (first.outbox ++ waiting),
+      (first.queue ++ waiting),
 )
 
 pub way_on : {K : Type 0} (kept : K → Option Kept) (start middle next : Start) (n : ℕ) (end : End)
@@ -93,7 +93,7 @@ pub way_on : {K : Type 0} (kept : K → Option Kept) (start middle next : Start)
     IsUnderWay kept start n middle seen between begun now first waiting store waiting_now → IsTerm middle end → Fits middle →
     next ≡ next_start middle.limit end → Sees between (end.journal ∷ []) seen_then →
     HasMadeIfWanted start.site.plan now end.journal new after →
-    GoOn (store.outbox ++ waiting_with waiting_now new) (kept store.keeper) (store_then.outbox ++ waiting_then) (kept store_then.keeper) →
+    GoOn (store.queue ++ waiting_with waiting_now new) (kept store.keeper) (store_then.queue ++ waiting_then) (kept store_then.keeper) →
     IsUnderWay kept start (n + 1) next seen seen_then begun after first waiting store_then waiting_then
 way_on kept start middle next n end seen between seen_then begun now after first waiting store waiting_now new store_then waiting_then way
     is fits same sees made goes =
@@ -101,9 +101,9 @@ way_on kept start middle next n end seen between seen_then begun now after first
     let journals = journals_of way.0.ends in (
       run_then start middle next n end seen between seen_then way.0 is fits same sees,
       carried_then plan begun now journals end.journal new after way.1 made,
-      stored_on plan begun (journals ++ end.journal ∷ []) (kept first.keeper) (first.outbox ++ waiting)
-          (store.outbox ++ waiting_with waiting_now new) (store_then.outbox ++ waiting_then) (kept store.keeper) (kept store_then.keeper)
-          (stored_then plan begun now after journals end.journal new (kept first.keeper) (first.outbox ++ waiting) store.outbox waiting_now
+      stored_on plan begun (journals ++ end.journal ∷ []) (kept first.keeper) (first.queue ++ waiting)
+          (store.queue ++ waiting_with waiting_now new) (store_then.queue ++ waiting_then) (kept store.keeper) (kept store_then.keeper)
+          (stored_then plan begun now after journals end.journal new (kept first.keeper) (first.queue ++ waiting) store.queue waiting_now
           (kept store.keeper) way.1 made way.2) goes,
     )
 
@@ -111,16 +111,16 @@ pub way_ends : {K : Type 0} (kept : K → Option Kept) (refuses : K → TimedRec
     (seen seen_then : Option (List (List Entry))) (begun now : Option Carry) (first : Keeping K) (waiting : List TimedRecords)
     (store : Keeping K) (waiting_now : List TimedRecords) (last : Keeping K) →
     IsUnderWay kept start n next seen seen_then begun now first waiting store waiting_now →
-    GoOn (store.outbox ++ waiting_now) (kept store.keeper) last.outbox (kept last.keeper) →
-    ((before : Option Kept) (all : List TimedRecords) → ArePassedOn before all (store.outbox ++ waiting_now) (kept store.keeper) →
-    IsAtEnd kept refuses before all last.outbox last.fault) → HaveServed kept refuses start n next seen seen_then begun first waiting
+    GoOn (store.queue ++ waiting_now) (kept store.keeper) last.queue (kept last.keeper) →
+    ((before : Option Kept) (all : List TimedRecords) → ArePassedOn before all (store.queue ++ waiting_now) (kept store.keeper) →
+    IsAtEnd kept refuses before all last.queue last.fault) → HaveServed kept refuses start n next seen seen_then begun first waiting
     last
 way_ends kept refuses start next n seen seen_then begun now first waiting store waiting_now last way goes end = (
   way.0,
   record {
-    stored = stored_on start.site.plan begun (journals_of way.0.ends) (kept first.keeper) (first.outbox ++ waiting)
-        (store.outbox ++ waiting_now) last.outbox (kept store.keeper) (kept last.keeper) way.2 goes;
-    end = end (kept first.keeper) ((first.outbox ++ waiting) ++ way.2.made) way.2.passed;
+    stored = stored_on start.site.plan begun (journals_of way.0.ends) (kept first.keeper) (first.queue ++ waiting)
+        (store.queue ++ waiting_now) last.queue (kept store.keeper) (kept last.keeper) way.2 goes;
+    end = end (kept first.keeper) ((first.queue ++ waiting) ++ way.2.made) way.2.passed;
   },
 )
 
@@ -128,16 +128,16 @@ pub way_stops : {K : Type 0} (kept : K → Option Kept) (refuses : K → TimedRe
     (terms done : ℕ) (fault : TermFault) (seen seen_then : Option (List (List Entry))) (begun now : Option Carry) (first : Keeping K)
     (waiting : List TimedRecords) (store : Keeping K) (waiting_now : List TimedRecords) (last : Keeping K) →
     IsUnderWay kept start done next seen seen_then begun now first waiting store waiting_now → done < terms → IsTermFault next fault →
-    GoOn (store.outbox ++ waiting_now) (kept store.keeper) last.outbox (kept last.keeper) →
-    ((before : Option Kept) (all : List TimedRecords) → ArePassedOn before all (store.outbox ++ waiting_now) (kept store.keeper) →
-    IsAtEnd kept refuses before all last.outbox last.fault) → HaveStoppedServing kept refuses start terms done fault seen seen_then
+    GoOn (store.queue ++ waiting_now) (kept store.keeper) last.queue (kept last.keeper) →
+    ((before : Option Kept) (all : List TimedRecords) → ArePassedOn before all (store.queue ++ waiting_now) (kept store.keeper) →
+    IsAtEnd kept refuses before all last.queue last.fault) → HaveStoppedServing kept refuses start terms done fault seen seen_then
     begun first waiting last
 way_stops kept refuses start next terms done fault seen seen_then begun now first waiting store waiting_now last way fewer why goes end = (
   record { next = next; run = way.0; fewer = fewer; why = why },
   record {
-    stored = stored_on start.site.plan begun (journals_of way.0.ends) (kept first.keeper) (first.outbox ++ waiting)
-        (store.outbox ++ waiting_now) last.outbox (kept store.keeper) (kept last.keeper) way.2 goes;
-    end = end (kept first.keeper) ((first.outbox ++ waiting) ++ way.2.made) way.2.passed;
+    stored = stored_on start.site.plan begun (journals_of way.0.ends) (kept first.keeper) (first.queue ++ waiting)
+        (store.queue ++ waiting_now) last.queue (kept store.keeper) (kept last.keeper) way.2 goes;
+    end = end (kept first.keeper) ((first.queue ++ waiting) ++ way.2.made) way.2.passed;
   },
 )
 

@@ -40,7 +40,7 @@ abbrev pub HaveServed : {K : Type 0} → (K → Option Kept) → (K → TimedRec
 HaveServed kept refuses start terms next seen seen_then carried first waiting last =
     (run : HaveRun start terms next seen seen_then)
     × AreServed kept refuses start.site.plan carried (journals_of run.ends)
-    (first.outbox ++ waiting) first.keeper last.outbox last.fault last.keeper
+    (first.queue ++ waiting) first.keeper last.queue last.fault last.keeper
 
 -- of the terms that were asked for, this many have run, and there is not another for this reason. The records of those
 -- that have run were made and passed on to the store, as `AreServed` says
@@ -51,7 +51,7 @@ abbrev pub HaveStoppedServing : {K : Type 0} → (K → Option Kept)
 HaveStoppedServing kept refuses start terms done fault seen seen_then carried first waiting last =
     (stopped : HaveStopped start terms done fault seen seen_then)
     × AreServed kept refuses start.site.plan carried (journals_of stopped.run.ends)
-    (first.outbox ++ waiting) first.keeper last.outbox last.fault last.keeper
+    (first.queue ++ waiting) first.keeper last.queue last.fault last.keeper
 
 -- how terms that begin with the first of these services begin with the second. All have the limit of the first
 abbrev pub start_in_row : {P G T C : Type 0} → (P → Option (List Answer)) → (G → Option (List Passage))
@@ -72,11 +72,11 @@ pub record HasServed {P G T C O K R : Type 0} (reported : P → Option (List Ans
       (start_in_row reported passed paced of_console service service) (terms_asked terms)
       (start_in_row reported passed paced of_console service next)
       (seen observer) (seen ran.observer) (carried_by books) books.keeping
-      books.waiting.outbox ran.keeping)
+      books.waiting.queue ran.keeping)
   pub fault : IfErr ran.result (λ (stopped : Stopped). HaveStoppedServing kept refuses
       (start_in_row reported passed paced of_console service service) (terms_asked terms)
       stopped.done stopped.fault (seen observer) (seen ran.observer) (carried_by books)
-      books.keeping books.waiting.outbox ran.keeping)
+      books.keeping books.waiting.queue ran.keeping)
   pub memory : IfErr ran.result (λ (stopped : Stopped).
       stopped.fault ≡ Open OutOfMemory → stopped.done ≡ 0)
 

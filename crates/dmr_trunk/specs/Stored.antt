@@ -103,7 +103,7 @@ is_idle (Busy child) = false
 
 -- a store to which nothing is to be handed
 abbrev pub idle_store : {K : Type 0} → K → Keeping K
-idle_store keeper = record { keeper = keeper; outbox = []; fault = None }
+idle_store keeper = record { keeper = keeper; queue = []; fault = None }
 
 -- what is carried to the next term, if records are made
 abbrev pub carried_by : {K R : Type 0} → Books K R → Option Carry
@@ -114,7 +114,7 @@ carried_by {R = R} books =
 pub record AreNewBooks {K R : Type 0} (wants : K → Bool) (radios : List ℕ) (store : K)
     (books : Books K R) : Type 0 where
   pub keeping : books.keeping ≡ idle_store store
-  pub waiting : books.waiting.outbox ≡ []
+  pub waiting : books.waiting.queue ≡ []
   pub carried : carried_by books ≡ carried_if_wanted (wants store) radios
 
 -- ---- the whole

@@ -10,7 +10,7 @@ pub struct Keeping<K> {
     /// The store.
     pub keeper: K,
     /// The records, oldest term first.
-    pub outbox: RecordQueue,
+    pub queue: RecordQueue,
     /// Why the store refused records the last time. `None` if it refused none.
     pub fault: Option<KeepFault>,
 }
@@ -23,9 +23,9 @@ impl<K: Keeper> Promise<Keeping<K>> for HandOver<K> {
     ghost use Rattle.std.specs.Prelude.{◌≡◌, [], None, IfSome};
     ghost use Rattle.dmr_keeper.specs.Handing.{AreHandedOver, IsRefused};
 
-    ghost kept_by = { λ p r. AreHandedOver (K.kept p.0.value.keeper) p.0.value.outbox r.outbox
-        (K.kept r.keeper) × (r.fault ≡ None → r.outbox ≡ [])
-        × IfSome r.fault (IsRefused K.kept K.refuses p.0.value.keeper p.0.value.outbox r.outbox) };
+    ghost kept_by = { λ p r. AreHandedOver (K.kept p.0.value.keeper) p.0.value.queue r.queue
+        (K.kept r.keeper) × (r.fault ≡ None → r.queue ≡ [])
+        × IfSome r.fault (IsRefused K.kept K.refuses p.0.value.keeper p.0.value.queue r.queue) };
 }
 
 /// The store: it is here, or a thread writes to it.

@@ -18,33 +18,33 @@ use std::thread::{Scope, Threads};
 impl<K: Keeper + Drop> Keeping<K> {
     /// The store when nothing waits for it: it refused nothing.
     fn at_rest(self) -> Keeping<K>
-        ensures { result ≡ record { keeper = self.keeper; outbox = self.outbox; fault = None } }
+        ensures { result ≡ record { keeper = self.keeper; queue = self.queue; fault = None } }
     {
-        let Keeping { keeper, outbox, .. } = self;
+        let Keeping { keeper, queue, .. } = self;
         Keeping {
             keeper,
-            outbox,
+            queue,
             fault: None,
         }
     }
 
     /// Hands the store what waits, oldest term first, until it refuses some. If there is no fault then, nothing waits.
     pub fn hand_over(self) -> Keeping<K>
-        ensures handed { AreHandedOver (K.kept self.keeper) self.outbox result.outbox
+        ensures handed { AreHandedOver (K.kept self.keeper) self.queue result.queue
             (K.kept result.keeper) }
-        ensures all { result.fault ≡ None → result.outbox ≡ [] }
+        ensures all { result.fault ≡ None → result.queue ≡ [] }
         ensures refused { IfSome result.fault
-            (IsRefused K.kept K.refuses self.keeper self.outbox result.outbox) }
+            (IsRefused K.kept K.refuses self.keeper self.queue result.queue) }
     {
         let Keeping {
             mut keeper,
-            mut outbox,
+            mut queue,
             ..
         } = self;
-        let fault = outbox.hand_over(&mut keeper).err();
+        let fault = queue.hand_over(&mut keeper).err();
         Keeping {
             keeper,
-            outbox,
+            queue,
             fault,
         }
     }
@@ -54,7 +54,7 @@ impl<K: Keeper + Drop> Keeping<K> {
 #[derive(Drop)]
 pub struct WaitingRecords {
     /// The records, oldest term first.
-    pub outbox: RecordQueue,
+    pub queue: RecordQueue,
     /// Why the store last refused records, as far as it was noted.
     noted: Option<KeepFault>,
     /// Of how many terms the records were lost since a note last said so.
@@ -63,11 +63,11 @@ pub struct WaitingRecords {
 
 impl WaitingRecords {
     /// Begins with no records.
-    pub fn new(outbox: RecordQueue) -> WaitingRecords
-        ensures { result.outbox ≡ outbox }
+    pub fn new(queue: RecordQueue) -> WaitingRecords
+        ensures { result.queue ≡ queue }
     {
         WaitingRecords {
-            outbox,
+            queue,
             noted: None,
             lost: 0,
         }
@@ -75,7 +75,7 @@ impl WaitingRecords {
 
     /// Counts terms whose records are lost. The first of them is noted.
     fn count_lost<R: Log>(&mut self, lost: u64, notes: &mut Notes<'_, R>)
-        ensures { self.new.outbox ≡ self.old.outbox }
+        ensures { self.new.queue ≡ self.old.queue }
     {
         if lost > 0 && self.lost == 0 {
             notes.records_lost();
@@ -85,10 +85,10 @@ impl WaitingRecords {
 
     /// Adds the records of a term, if there are any. If there is no room for them, the oldest are lost.
     pub fn add<R: Log>(&mut self, made: Option<TimedRecords>, notes: &mut Notes<'_, R>)
-        ensures { self.new.outbox ≡ waiting_with self.old.outbox made }
+        ensures { self.new.queue ≡ waiting_with self.old.queue made }
     {
         if let Some(term) = made {
-            if let Some(oldest) = self.outbox.add(term) {
+            if let Some(oldest) = self.queue.add(term) {
                 drop(oldest);
                 self.count_lost(1, notes);
             }
@@ -97,18 +97,18 @@ impl WaitingRecords {
 
     /// Moves all records to the store's. They come after those that it refused. If there is no room for all, the oldest
     /// are lost.
-    fn move_to<R: Log>(&mut self, outbox: &mut RecordQueue, notes: &mut Notes<'_, R>)
-        ensures moved { outbox.new ≡ newest (outbox.old ++ self.old.outbox) }
-        ensures none { self.new.outbox ≡ [] }
+    fn move_to<R: Log>(&mut self, queue: &mut RecordQueue, notes: &mut Notes<'_, R>)
+        ensures moved { queue.new ≡ newest (queue.old ++ self.old.queue) }
+        ensures none { self.new.queue ≡ [] }
     {
-        let lost = outbox.append(&mut self.outbox);
+        let lost = queue.append(&mut self.queue);
         self.count_lost(lost as u64, notes);
     }
 
     /// Notes what came of handing records over: a fault that is not the one before, or that there is none any more. The
     /// second note also comes if records were lost although none were refused, since the store was slow.
     fn note<R: Log>(&mut self, fault: Option<KeepFault>, notes: &mut Notes<'_, R>)
-        ensures { self.new.outbox ≡ self.old.outbox }
+        ensures { self.new.queue ≡ self.old.queue }
     {
         if fault == self.noted && (fault.is_some() || self.lost == 0) {
             return;
@@ -133,13 +133,13 @@ fn start_writing<'s, E, K>(
 ) -> Writer<K>
 where
     K: Keeper + Send + Drop + 's,
-    ensures goes_on { GoOn keeping.outbox (K.kept keeping.keeper) (held result).outbox
+    ensures goes_on { GoOn keeping.queue (K.kept keeping.keeper) (held result).queue
         (K.kept (held result).keeper) }
     ensures idle { is_idle result ≡ true → (before : Option Kept) (all : List TermRecords)
-        → ArePassedOn before all keeping.outbox (K.kept keeping.keeper)
-        → IsAtEnd K.kept K.refuses before all (held result).outbox (held result).fault }
+        → ArePassedOn before all keeping.queue (K.kept keeping.keeper)
+        → IsAtEnd K.kept K.refuses before all (held result).queue (held result).fault }
 {
-    if keeping.outbox.is_empty() {
+    if keeping.queue.is_empty() {
         return Writer::Idle(keeping.at_rest());
     }
     written.store(false, Ordering::SeqCst);
@@ -147,10 +147,10 @@ where
     match scope.spawn_with(
         promise,
         move || -> Keeping<K>
-            ensures { AreHandedOver (K.kept keeping.keeper) keeping.outbox result.outbox
-                (K.kept result.keeper) × (result.fault ≡ None → result.outbox ≡ [])
+            ensures { AreHandedOver (K.kept keeping.keeper) keeping.queue result.queue
+                (K.kept result.keeper) × (result.fault ≡ None → result.queue ≡ [])
                 × IfSome result.fault
-                (IsRefused K.kept K.refuses keeping.keeper keeping.outbox result.outbox) }
+                (IsRefused K.kept K.refuses keeping.keeper keeping.queue result.queue) }
         {
             let back = keeping.hand_over();
             written.store(true, Ordering::SeqCst);
@@ -168,7 +168,7 @@ where
     K: Keeper + Send + Drop,
     R: Threads,
     ensures back { IfOk result (λ keeping. AreHandedOver (K.kept (held writer).keeper)
-        (held writer).outbox keeping.outbox (K.kept keeping.keeper)) }
+        (held writer).queue keeping.queue (K.kept keeping.keeper)) }
     ensures busy { IfErr result (λ busy. busy ≡ writer) }
     ensures idle { is_idle writer ≡ true → IsOk result }
 {
@@ -188,7 +188,7 @@ fn wait_for<K, R>(rt: &R, writer: Writer<K>) -> Keeping<K>
 where
     K: Keeper + Send + Drop,
     R: Threads,
-    ensures { AreHandedOver (K.kept (held writer).keeper) (held writer).outbox result.outbox
+    ensures { AreHandedOver (K.kept (held writer).keeper) (held writer).queue result.queue
         (K.kept result.keeper) }
 {
     match writer {
@@ -211,20 +211,20 @@ pub fn go_on<'s, E, K, R>(
 where
     K: Keeper + Send + Drop + 's,
     R: Log + Threads,
-    ensures goes_on { GoOn ((held writer).outbox ++ waiting.old.outbox)
-        (K.kept (held writer).keeper) ((held result).outbox ++ waiting.new.outbox)
+    ensures goes_on { GoOn ((held writer).queue ++ waiting.old.queue)
+        (K.kept (held writer).keeper) ((held result).queue ++ waiting.new.queue)
         (K.kept (held result).keeper) }
-    ensures moved { is_idle writer ≡ true → waiting.new.outbox ≡ [] }
+    ensures moved { is_idle writer ≡ true → waiting.new.queue ≡ [] }
     ensures idle { is_idle result ≡ true → (before : Option Kept) (all : List TermRecords)
-        → ArePassedOn before all ((held writer).outbox ++ waiting.old.outbox)
+        → ArePassedOn before all ((held writer).queue ++ waiting.old.queue)
         (K.kept (held writer).keeper)
-        → IsAtEnd K.kept K.refuses before all (held result).outbox (held result).fault }
+        → IsAtEnd K.kept K.refuses before all (held result).queue (held result).fault }
 {
     match take_back(rt, written, writer) {
         Err(busy) => busy,
         Ok(mut keeping) => {
             waiting.note(keeping.fault, notes);
-            waiting.move_to(&mut keeping.outbox, notes);
+            waiting.move_to(&mut keeping.queue, notes);
             start_writing(scope, written, keeping)
         }
     }
@@ -240,15 +240,15 @@ pub fn hand_over_rest<K, R>(
 where
     K: Keeper + Send + Drop,
     R: Log + Threads,
-    ensures goes_on { GoOn ((held writer).outbox ++ waiting.outbox) (K.kept (held writer).keeper)
-        result.outbox (K.kept result.keeper) }
+    ensures goes_on { GoOn ((held writer).queue ++ waiting.queue) (K.kept (held writer).keeper)
+        result.queue (K.kept result.keeper) }
     ensures end { (before : Option Kept) (all : List TermRecords)
-        → ArePassedOn before all ((held writer).outbox ++ waiting.outbox)
+        → ArePassedOn before all ((held writer).queue ++ waiting.queue)
         (K.kept (held writer).keeper)
-        → IsAtEnd K.kept K.refuses before all result.outbox result.fault }
+        → IsAtEnd K.kept K.refuses before all result.queue result.fault }
 {
     let mut keeping = wait_for(rt, writer);
-    waiting.move_to(&mut keeping.outbox, notes);
+    waiting.move_to(&mut keeping.queue, notes);
     let keeping = keeping.hand_over();
     waiting.note(keeping.fault, notes);
     keeping

@@ -109,14 +109,14 @@ fn open_books<'a, K: Keeper + Drop, R: Net + Log + Clock + Wait>(
     ensures { IfOk result (AreNewBooks K.wants site.now.facts.registered keeper) }
 {
     let waiting = RecordQueue::new(alloc)?;
-    let outbox = RecordQueue::new(alloc)?;
+    let queue = RecordQueue::new(alloc)?;
     let maker = maker_if_wanted(rt, alloc, site, &keeper)?;
     Ok(Books {
         maker,
         waiting: WaitingRecords::new(waiting),
         keeping: Keeping {
             keeper,
-            outbox,
+            queue,
             fault: None,
         },
     })

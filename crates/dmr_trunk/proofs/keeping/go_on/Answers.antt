@@ -10,15 +10,15 @@ returns-in-Ok-clause-goes_on g c =
     let kept = g.K.Keeper.kept in
     let old = held c.args.writer in
     let back = c.in-Ok.keeping in
-    let waits = c.args.waiting.now.outbox in
+    let waits = c.args.waiting.now.queue in
     let then = held c.start_writing.result in
-    let moved : c.move_to.new.outbox ≡ newest (back.outbox ++ waits) =
-    c.move_to.ensures.moved ∙ ap (λ (terms : List TimedRecords). newest (back.outbox ++ terms)) c.note.ensures in
-    goes_to_all (kept old.keeper) (kept then.keeper) (old.outbox ++ waits) then.outbox c.move_to.new.self.outbox c.move_to.ensures.none
-    (goes_on (kept old.keeper) (kept back.keeper) (kept then.keeper) (old.outbox ++ waits) (back.outbox ++ waits) then.outbox
-    (goes_handed (kept old.keeper) (kept back.keeper) old.outbox back.outbox waits c.in-Ok.ensures.back)
-    (goes_on (kept back.keeper) (kept back.keeper) (kept then.keeper) (back.outbox ++ waits) c.move_to.new.outbox then.outbox
-    (goes_moved (kept back.keeper) back.outbox waits c.move_to.new.outbox moved) c.start_writing.ensures.goes_on))
+    let moved : c.move_to.new.queue ≡ newest (back.queue ++ waits) =
+    c.move_to.ensures.moved ∙ ap (λ (terms : List TimedRecords). newest (back.queue ++ terms)) c.note.ensures in
+    goes_to_all (kept old.keeper) (kept then.keeper) (old.queue ++ waits) then.queue c.move_to.new.self.queue c.move_to.ensures.none
+    (goes_on (kept old.keeper) (kept back.keeper) (kept then.keeper) (old.queue ++ waits) (back.queue ++ waits) then.queue
+    (goes_handed (kept old.keeper) (kept back.keeper) old.queue back.queue waits c.in-Ok.ensures.back)
+    (goes_on (kept back.keeper) (kept back.keeper) (kept then.keeper) (back.queue ++ waits) c.move_to.new.queue then.queue
+    (goes_moved (kept back.keeper) back.queue waits c.move_to.new.queue moved) c.start_writing.ensures.goes_on))
 
 -- the thread still writes, so the writer is not idle
 pub returns-in-Err-clause-idle : goal.returns-in-Err-clause-idle
@@ -32,10 +32,10 @@ returns-in-Ok-clause-idle g c idle before all passed =
     let kept = g.K.Keeper.kept in
     let old = held c.args.writer in
     let back = c.in-Ok.keeping in
-    let waits = c.args.waiting.now.outbox in
-    let moved : c.move_to.new.outbox ≡ newest (back.outbox ++ waits) =
-    c.move_to.ensures.moved ∙ ap (λ (terms : List TimedRecords). newest (back.outbox ++ terms)) c.note.ensures in
+    let waits = c.args.waiting.now.queue in
+    let moved : c.move_to.new.queue ≡ newest (back.queue ++ waits) =
+    c.move_to.ensures.moved ∙ ap (λ (terms : List TimedRecords). newest (back.queue ++ terms)) c.note.ensures in
     c.start_writing.ensures.idle idle before all
-    (goes_on (kept old.keeper) (kept back.keeper) (kept back.keeper) (old.outbox ++ waits) (back.outbox ++ waits) c.move_to.new.outbox
-    (goes_handed (kept old.keeper) (kept back.keeper) old.outbox back.outbox waits c.in-Ok.ensures.back)
-    (goes_moved (kept back.keeper) back.outbox waits c.move_to.new.outbox moved) before all passed)
+    (goes_on (kept old.keeper) (kept back.keeper) (kept back.keeper) (old.queue ++ waits) (back.queue ++ waits) c.move_to.new.queue
+    (goes_handed (kept old.keeper) (kept back.keeper) old.queue back.queue waits c.in-Ok.ensures.back)
+    (goes_moved (kept back.keeper) back.queue waits c.move_to.new.queue moved) before all passed)

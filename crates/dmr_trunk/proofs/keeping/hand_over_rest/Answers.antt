@@ -8,23 +8,23 @@ returns-clause-goes_on g c =
     let kept = g.K.Keeper.kept in
     let old = held c.args.writer in
     let back = c.wait_for-keeping.result in
-    let waits = c.args.waiting.outbox in
+    let waits = c.args.waiting.queue in
     let last = c.hand_over-keeping.result in
-    goes_on (kept old.keeper) (kept back.keeper) (kept last.keeper) (old.outbox ++ waits) (back.outbox ++ waits) last.outbox
-    (goes_handed (kept old.keeper) (kept back.keeper) old.outbox back.outbox waits c.wait_for-keeping.ensures)
-    (goes_on (kept back.keeper) (kept back.keeper) (kept last.keeper) (back.outbox ++ waits) c.move_to.new.outbox last.outbox
-    (goes_moved (kept back.keeper) back.outbox waits c.move_to.new.outbox c.move_to.ensures.moved)
-    (goes_handed_alone (kept back.keeper) (kept last.keeper) c.move_to.new.outbox last.outbox c.hand_over-keeping.ensures.handed))
+    goes_on (kept old.keeper) (kept back.keeper) (kept last.keeper) (old.queue ++ waits) (back.queue ++ waits) last.queue
+    (goes_handed (kept old.keeper) (kept back.keeper) old.queue back.queue waits c.wait_for-keeping.ensures)
+    (goes_on (kept back.keeper) (kept back.keeper) (kept last.keeper) (back.queue ++ waits) c.move_to.new.queue last.queue
+    (goes_moved (kept back.keeper) back.queue waits c.move_to.new.queue c.move_to.ensures.moved)
+    (goes_handed_alone (kept back.keeper) (kept last.keeper) c.move_to.new.queue last.queue c.hand_over-keeping.ensures.handed))
 
 pub returns-clause-end : goal.returns-clause-end
 returns-clause-end g c before all passed =
     let kept = g.K.Keeper.kept in
     let old = held c.args.writer in
     let back = c.wait_for-keeping.result in
-    let waits = c.args.waiting.outbox in
+    let waits = c.args.waiting.queue in
     let last = c.hand_over-keeping.result in
-    at_end kept g.K.Keeper.refuses before all back.keeper c.move_to.new.outbox last.outbox last.fault
-    (goes_on (kept old.keeper) (kept back.keeper) (kept back.keeper) (old.outbox ++ waits) (back.outbox ++ waits) c.move_to.new.outbox
-    (goes_handed (kept old.keeper) (kept back.keeper) old.outbox back.outbox waits c.wait_for-keeping.ensures)
-    (goes_moved (kept back.keeper) back.outbox waits c.move_to.new.outbox c.move_to.ensures.moved) before all passed)
+    at_end kept g.K.Keeper.refuses before all back.keeper c.move_to.new.queue last.queue last.fault
+    (goes_on (kept old.keeper) (kept back.keeper) (kept back.keeper) (old.queue ++ waits) (back.queue ++ waits) c.move_to.new.queue
+    (goes_handed (kept old.keeper) (kept back.keeper) old.queue back.queue waits c.wait_for-keeping.ensures)
+    (goes_moved (kept back.keeper) back.queue waits c.move_to.new.queue c.move_to.ensures.moved) before all passed)
     c.hand_over-keeping.ensures.all c.hand_over-keeping.ensures.refused

@@ -8,16 +8,16 @@ pub returns-in-Err-clause-goes_on : goal.returns-in-Err-clause-goes_on
 returns-in-Err-clause-goes_on g c =
     let kept = g.K.Keeper.kept in
     let back = c.spawn_with-in-Err.result in
-    let over = subst (λ captured. AreHandedOver (kept captured.0.keeper) captured.0.outbox back.outbox (kept back.keeper))
+    let over = subst (λ captured. AreHandedOver (kept captured.0.keeper) captured.0.queue back.queue (kept back.keeper))
     c.in-Err.ensures.err c.spawn_with-in-Err.ensures.0 in
-    goes_handed_alone (kept c.args.keeping.keeper) (kept back.keeper) c.args.keeping.outbox back.outbox over
+    goes_handed_alone (kept c.args.keeping.keeper) (kept back.keeper) c.args.keeping.queue back.queue over
 
 pub returns-in-Err-clause-idle : goal.returns-in-Err-clause-idle
 returns-in-Err-clause-idle g c idle before all passed =
     let kept = g.K.Keeper.kept in
     let refuses = g.K.Keeper.refuses in
     let back = c.spawn_with-in-Err.result in
-    let refused = subst (λ captured. IfSome back.fault (IsRefused kept refuses captured.0.keeper captured.0.outbox back.outbox))
+    let refused = subst (λ captured. IfSome back.fault (IsRefused kept refuses captured.0.keeper captured.0.queue back.queue))
     c.in-Err.ensures.err c.spawn_with-in-Err.ensures.2 in
-    at_end kept refuses before all c.args.keeping.keeper c.args.keeping.outbox back.outbox back.fault passed c.spawn_with-in-Err.ensures.1
+    at_end kept refuses before all c.args.keeping.keeper c.args.keeping.queue back.queue back.fault passed c.spawn_with-in-Err.ensures.1
     refused

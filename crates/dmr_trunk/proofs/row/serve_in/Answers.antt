@@ -13,7 +13,7 @@ pub loop-done-init : goal.loop-done-init
 loop-done-init g c = way_begins g.K.Keeper.kept
     (start_at g.P.Wire.reported g.G.Gate.passed g.T.Pacer.paced g.C.Wire.reported c.term_entries-limit.result c.args.service)
     (g.O.Observer.seen c.args.observer) (option_map (λ m. m.recorder.carried) c.args.books.maker) c.args.books.keeping
-    c.args.books.waiting.outbox
+    c.args.books.waiting.queue
 
 pub loop-done-preserved : goal.loop-done-preserved
 loop-done-preserved g c =
@@ -29,14 +29,14 @@ loop-done-preserved g c =
     let store_then = held c.go_on-writer.result in
     let P : Settings → Type 0 = λ plan. HasMadeIfWanted plan now term.report.journal new after in
     let Q : List Entry → Type 0 = λ journal. HasMadeIfWanted c.plan.result.now now journal new after in
-    let R : List TimedRecords → Type 0 = λ waiting. GoOn (store.outbox ++ waiting) (kept store.keeper)
-    (store_then.outbox ++ c.go_on-writer.new.waiting.outbox) (kept store_then.keeper) in
+    let R : List TimedRecords → Type 0 = λ waiting. GoOn (store.queue ++ waiting) (kept store.keeper)
+    (store_then.queue ++ c.go_on-writer.new.waiting.queue) (kept store_then.keeper) in
     way_on kept (start_at g.P.Wire.reported g.G.Gate.passed g.T.Pacer.paced g.C.Wire.reported limit c.args.service)
     (start_at g.P.Wire.reported g.G.Gate.passed g.T.Pacer.paced g.C.Wire.reported limit c.loop-done.service)
     (start_at g.P.Wire.reported g.G.Gate.passed g.T.Pacer.paced g.C.Wire.reported limit c.into_service-service.result) c.loop-done.done end
     (g.O.Observer.seen c.args.observer) (g.O.Observer.seen c.loop-done.observer) (g.O.Observer.seen c.ended.new.self)
-    (option_map (λ m. m.recorder.carried) c.args.books.maker) now after c.args.books.keeping c.args.books.waiting.outbox store
-    c.loop-done.waiting.outbox new store_then c.go_on-writer.new.waiting.outbox c.loop-done.invariant c.in-Ok.ensures.term
+    (option_map (λ m. m.recorder.carried) c.args.books.maker) now after c.args.books.keeping c.args.books.waiting.queue store
+    c.loop-done.waiting.queue new store_then c.go_on-writer.new.waiting.queue c.loop-done.invariant c.in-Ok.ensures.term
     c.in-Ok.ensures.fits
     (λ i. start_of_term (left.site i) limit (states_of g.P.Wire.reported g.G.Gate.passed (left.stations i).items)
     (g.T.Pacer.paced (left.pacer i)) (console_of g.C.Wire.reported (left.console i))) c.ended.ensures
@@ -52,14 +52,14 @@ returns-in-Err g c =
     let P : ℕ → Type 0 = λ limit. HaveStoppedServing kept g.K.Keeper.refuses
     (start_at g.P.Wire.reported g.G.Gate.passed g.T.Pacer.paced g.C.Wire.reported limit c.args.service)
     (terms_asked c.args.terms) c.loop-done.done c.in-Err.fault (g.O.Observer.seen c.args.observer)
-    (g.O.Observer.seen c.loop-done.observer) begun c.args.books.keeping c.args.books.waiting.outbox c.hand_over_rest.result in
+    (g.O.Observer.seen c.loop-done.observer) begun c.args.books.keeping c.args.books.waiting.queue c.hand_over_rest.result in
     let counted = c.terms_asked-done-end.ensures in
     let fault = subst P same (way_stops kept g.K.Keeper.refuses
     (start_at g.P.Wire.reported g.G.Gate.passed g.T.Pacer.paced g.C.Wire.reported c.term_entries-limit.result c.args.service)
     (start_at g.P.Wire.reported g.G.Gate.passed g.T.Pacer.paced g.C.Wire.reported c.term_entries-limit.result c.loop-done.service)
     (terms_asked c.args.terms) c.loop-done.done c.in-Err.fault (g.O.Observer.seen c.args.observer)
     (g.O.Observer.seen c.loop-done.observer) begun (option_map (λ m. m.recorder.carried) c.loop-done.maker) c.args.books.keeping
-    c.args.books.waiting.outbox (held c.loop-done.writer) c.loop-done.waiting.outbox c.hand_over_rest.result
+    c.args.books.waiting.queue (held c.loop-done.writer) c.loop-done.waiting.queue c.hand_over_rest.result
     c.loop-done.invariant (omega arith) c.in-Err.ensures.fault c.hand_over_rest.ensures.goes_on c.hand_over_rest.ensures.end) in
     record { run = tt; fault = fault; memory = c.in-Err.ensures.memory }
 
@@ -74,20 +74,20 @@ returns g c =
     let P : ℕ → Type 0 = λ limit. HaveServed kept g.K.Keeper.refuses
     (start_at g.P.Wire.reported g.G.Gate.passed g.T.Pacer.paced g.C.Wire.reported limit c.args.service) c.loop-done.done
     (start_at g.P.Wire.reported g.G.Gate.passed g.T.Pacer.paced g.C.Wire.reported limit c.loop-done.service)
-    (g.O.Observer.seen c.args.observer) (g.O.Observer.seen c.loop-done.observer) begun c.args.books.keeping c.args.books.waiting.outbox
+    (g.O.Observer.seen c.args.observer) (g.O.Observer.seen c.loop-done.observer) begun c.args.books.keeping c.args.books.waiting.queue
     c.hand_over_rest-2.result in
     let Q : ℕ → Type 0 = λ terms. HaveServed kept g.K.Keeper.refuses
     (start_at g.P.Wire.reported g.G.Gate.passed g.T.Pacer.paced g.C.Wire.reported c.args.service.site.plan.serving.term_entries
     c.args.service) terms (start_at g.P.Wire.reported g.G.Gate.passed g.T.Pacer.paced g.C.Wire.reported
     c.args.service.site.plan.serving.term_entries c.loop-done.service) (g.O.Observer.seen c.args.observer)
-    (g.O.Observer.seen c.loop-done.observer) begun c.args.books.keeping c.args.books.waiting.outbox c.hand_over_rest-2.result in
+    (g.O.Observer.seen c.loop-done.observer) begun c.args.books.keeping c.args.books.waiting.queue c.hand_over_rest-2.result in
     let run = subst Q all (subst P same
     (way_ends kept g.K.Keeper.refuses
     (start_at g.P.Wire.reported g.G.Gate.passed g.T.Pacer.paced g.C.Wire.reported c.term_entries-limit.result c.args.service)
     (start_at g.P.Wire.reported g.G.Gate.passed g.T.Pacer.paced g.C.Wire.reported c.term_entries-limit.result c.loop-done.service)
     c.loop-done.done
     (g.O.Observer.seen c.args.observer) (g.O.Observer.seen c.loop-done.observer) begun
-    (option_map (λ m. m.recorder.carried) c.loop-done.maker) c.args.books.keeping c.args.books.waiting.outbox
-    (held c.loop-done.writer) c.loop-done.waiting.outbox c.hand_over_rest-2.result
+    (option_map (λ m. m.recorder.carried) c.loop-done.maker) c.args.books.keeping c.args.books.waiting.queue
+    (held c.loop-done.writer) c.loop-done.waiting.queue c.hand_over_rest-2.result
     c.loop-done.invariant c.hand_over_rest-2.ensures.goes_on c.hand_over_rest-2.ensures.end)) in
     record { run = run; fault = tt; memory = tt }

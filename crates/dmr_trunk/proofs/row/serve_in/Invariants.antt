@@ -11,4 +11,4 @@ invariant-loop-done g l = IsUnderWay g.K.Keeper.kept
     (start_at g.P.Wire.reported g.G.Gate.passed g.T.Pacer.paced g.C.Wire.reported l.limit l.service)
     (g.O.Observer.seen l.initial.observer) (g.O.Observer.seen l.observer)
     (option_map (λ m. m.recorder.carried) l.initial.maker) (option_map (λ m. m.recorder.carried) l.maker)
-    (held l.initial.writer) l.initial.waiting.outbox (held l.writer) l.waiting.outbox
+    (held l.initial.writer) l.initial.waiting.queue (held l.writer) l.waiting.queue

@@ -1,8 +1,8 @@
 -- The calls that the code ends together. No other definition uses it.
 use Rattle.std.specs.Prelude.{Bool}
 use Rattle.dmr_keeper.specs.declared.calls.OpenCall.{OpenCall}
-use Rattle.dmr_keeper.specs.declared.closing.EndingCalls.{EndingCalls}
-use Rattle.dmr_keeper.specs.declared.closing.EndingCalls.TheVariants.{OnSlot, OfCarrier}
+use Rattle.dmr_keeper.specs.declared.ending.EndingCalls.{EndingCalls}
+use Rattle.dmr_keeper.specs.declared.ending.EndingCalls.TheVariants.{OnSlot, OfCarrier}
 use Rattle.dmr_keeper.specs.Calls.{is_on, is_of}
 
 -- the call is one of them

@@ -1,7 +1,7 @@
 use Rattle.std.proofs.Common.{◌≡◌, ◌++◌, drop}
 use Rattle.std.specs.Prelude.{fold}
 use Rattle.dmr_keeper.specs.Calls.{ended_by_acts, open_by_act}
-use Rattle.dmr_keeper.proofs.closing.apply_acts.Given as goal
+use Rattle.dmr_keeper.proofs.ending.apply_acts.Given as goal
 
 abbrev pub invariant-loop-act : goal.invariant-loop-act
 invariant-loop-act l = record {

@@ -4,7 +4,7 @@ ghost use Rattle.std.specs.Prelude.{◌≡◌, ◌++◌, fold, filter, map, not,
 ghost use Rattle.dmr_keeper.specs.Calls.{ended_at as ended_call_at, ended_by_act, ended_by_acts};
 ghost use Rattle.dmr_keeper.specs.Calls.{ended_by_event, ended_in_entry};
 ghost use Rattle.dmr_keeper.specs.Calls.{open_after_entry, open_by_act, open_by_event};
-ghost use Rattle.dmr_keeper.specs.Closing.{is_covered};
+ghost use Rattle.dmr_keeper.specs.Ending.{is_covered};
 
 use crate::calls::{EndedCall, OpenCall, count_tick, mark_active};
 use crate::lines::OpenLine;
@@ -37,15 +37,15 @@ fn add_ended(
     hang: u16,
     event: &Event,
     tick: u64,
-    closing: &EndingCalls,
+    ending: &EndingCalls,
     calls: &[OpenCall],
     ended: &mut Vec<EndedCall>,
 ) -> Result<(), OutOfMemory>
     ensures { OnOk result (ended.new.items ≡ ended.old.items
-        ++ map (ended_call_at hang event.now tick) (filter (is_covered closing.now) calls.now)) }
+        ++ map (ended_call_at hang event.now tick) (filter (is_covered ending.now) calls.now)) }
 {
     for call in calls {
-        if closing.covers(call) {
+        if ending.covers(call) {
             ended.push(call.ended_at(hang, event, tick))?;
         }
     }
@@ -53,10 +53,10 @@ fn add_ended(
 }
 
 /// Removes the calls that end.
-fn remove_ended(closing: &EndingCalls, calls: &mut Vec<OpenCall>)
-    ensures { calls.new.items ≡ filter (λ o. not (is_covered closing.now o)) calls.old.items }
+fn remove_ended(ending: &EndingCalls, calls: &mut Vec<OpenCall>)
+    ensures { calls.new.items ≡ filter (λ o. not (is_covered ending.now o)) calls.old.items }
 {
-    calls.retain(|call| !closing.covers(call));
+    calls.retain(|call| !ending.covers(call));
 }
 
 /// Removes the calls that end, and adds their records.
@@ -64,18 +64,18 @@ fn end_calls(
     hang: u16,
     event: &Event,
     tick: u64,
-    closing: &EndingCalls,
+    ending: &EndingCalls,
     calls: &mut Vec<OpenCall>,
     ended: &mut Vec<EndedCall>,
 ) -> Result<(), OutOfMemory>
     ensures calls { OnOk result
-        (calls.new.items ≡ filter (λ o. not (is_covered closing.now o)) calls.old.items) }
+        (calls.new.items ≡ filter (λ o. not (is_covered ending.now o)) calls.old.items) }
     ensures ended { OnOk result (ended.new.items ≡ ended.old.items
         ++ map (ended_call_at hang event.now tick)
-        (filter (is_covered closing.now) calls.old.items)) }
+        (filter (is_covered ending.now) calls.old.items)) }
 {
-    add_ended(hang, event, tick, closing, calls.as_slice(), ended)?;
-    remove_ended(closing, calls);
+    add_ended(hang, event, tick, ending, calls.as_slice(), ended)?;
+    remove_ended(ending, calls);
     Ok(())
 }
 

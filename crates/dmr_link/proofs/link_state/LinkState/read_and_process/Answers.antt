@@ -26,3 +26,9 @@ returns-in_err-process_unread-clause-moves g c =
 
 pub returns-clause-moves : goal.returns-clause-moves
 returns-clause-moves g c = moves_then _ _ _ _ (read_first g c.before) c.in_ok-process_unread.ensures.step.moves
+
+pub returns-in_default-clause-moves : goal.returns-in_default-clause-moves
+returns-in_default-clause-moves g c = c.in_default.ensures.moves _ _
+
+pub returns-then-row-gt0-clause-moves : goal.returns-then-row-gt0-clause-moves
+returns-then-row-gt0-clause-moves g c = c.in-Some.ensures.moves _ _

@@ -1,5 +1,5 @@
 //! Tests with threads: whole terms with a thread for each worker, one locked site and ports that fail at any call. Also
-//! tests of desks that refuse, and of the program's command line with its texts and statuses.
+//! tests of desks that refuse, and of the texts and statuses of faults.
 //!
 //! The crate holds only tests, and most of them loop over a table. They are above the desk, since a crate with tests is
 //! proved twice.

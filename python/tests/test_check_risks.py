@@ -4,6 +4,7 @@ import re
 import unittest
 
 from temzaar.sitefigures import Figures, Line, explain_site
+from temzaar.sitekeys import KEYS
 from temzaar.siterisks import Risk, Surroundings, find_risks, has_address
 from temzaar.sitetext import SiteText
 from tests.support import SITES, read_document as read_page
@@ -174,14 +175,14 @@ class Explained(unittest.TestCase):
     def test_defaults(self) -> None:
         lines = self.amounts(SITE)
         self.assertEqual([it.key for it in lines.values() if it.is_default],
-                         ["aloha_sync", "aloha_version", "aloha_offset", "aloha_active", "nrand_wait", "term_entries", "link_version", "address"])
+                         [it.name for it in KEYS if it.default is not None])
         self.assertEqual(lines["address"].value, "127.0.0.1")
 
     def test_what_is_at_fault_is_left_out(self) -> None:
         lines = self.amounts(SITE.replace("hang = 100", "hang = 0").replace("tick_ms = 60", "tick_ms = 5"))
         self.assertNotIn("hang", lines)
         self.assertEqual(lines["maximum"].amounts, "")
-        self.assertEqual([*self.amounts("")], ["leave_bit", "aloha_sync", "aloha_version", "aloha_offset", "aloha_active", "nrand_wait", "term_entries", "link_version", "address"])
+        self.assertEqual([*self.amounts("")], [it.name for it in KEYS if not it.required])
 
     def test_no_figures_without_values(self) -> None:
         figures = Figures({})

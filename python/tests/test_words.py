@@ -3,7 +3,7 @@ import subprocess
 
 from tests.support import TWO_CARRIERS, FolderCase, program
 
-# Words that are taken. There is no file of these names, and the controller says of the first that it cannot read it.
+# Words that are taken, with the file of which the controller then says that it cannot read it: there is none of that name.
 TAKEN = {
     "--site a --script=b": "a",
     # If nothing is served, --terms is ignored.

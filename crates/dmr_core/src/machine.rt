@@ -1,7 +1,7 @@
 //! The parts of a site, and the effect of each event and act on them. The answers are in the modules below.
 
-ghost use Rattle.std.specs.Prelude.{◌≡◌, ◌≢◌, ◌≤◌, ◌+◌, ◌++◌, [], ◌∷◌, None, fold, length, IfOk};
-ghost use Rattle.dmr_core.specs.declared.event.Event.TheVariants.{Up, Lost, Heard, Tick};
+ghost use Rattle.std.specs.Prelude.{◌≡◌, ◌≤◌, ◌+◌, ◌++◌, [], ◌∷◌, None, fold, length, IfOk};
+ghost use Rattle.dmr_core.specs.declared.event.Event.TheVariants.{Up, Lost, Heard, Say};
 ghost use Rattle.dmr_core.specs.Facts.{facts_after, facts_after_event, facts_after_act, no_facts};
 ghost use Rattle.dmr_core.specs.Rules.{acts_of, answer_to_command};
 ghost use Rattle.dmr_core.specs.Replies.{reply_to};
@@ -217,35 +217,6 @@ impl Machine {
         }
     }
 
-    /// Applies an event to the facts, without its acts.
-    #[tactic(auto, using(crate::proofs::HeldLemmas::marked_held, crate::proofs::HeldLemmas::counted_held))]
-    fn update_facts(&mut self, event: &Event)
-        ensures { self.new ≡ record {
-          plan = self.old.plan;
-          facts = facts_after_event self.old.plan self.old.facts event.now;
-        } }
-    {
-        match event {
-            Event::Up(carrier) => self.apply_up(*carrier),
-            Event::Lost(carrier) => self.apply_lost(*carrier),
-            Event::Noise(slot) => {
-                if self.is_control(slot) {
-                    self.access.noise();
-                }
-            }
-            Event::Active(slot) => self.calls.active(*slot),
-            Event::Poll(carrier) => {
-                if *carrier == self.plan.control() {
-                    self.access.polled();
-                }
-            }
-            Event::Tick => self.calls.count_tick(),
-            Event::Say(Command::Move(lpcn)) => self.moving = Some(*lpcn),
-            Event::Say(Command::Stay) => self.moving = None,
-            Event::Heard(_, _) | Event::Say(_) => {}
-        }
-    }
-
     /// Begins a call, which holds its slot.
     // Out of line: an event without such an act then does not prepare for it.
     #[inline(never)]
@@ -332,24 +303,23 @@ impl Machine {
         *acts = self.answer_command(command);
     }
 
-    /// Makes `acts`, which is empty, the answer to an event other than a tick.
-    fn answer_event(&self, event: &Event, acts: &mut Acts)
-        requires other { event.now ≢ Tick }
-        requires empty { acts.old ≡ record { list = []; said = None } }
-        ensures { acts.new ≡ record {
-          list = acts_of self.now.plan self.now.facts event.now;
-          said = reply_to self.now.plan self.now.facts event.now;
+    /// Applies a command to the facts: `move` and `stay` change where the control channel moves.
+    fn apply_command(&mut self, command: &Command)
+        ensures { self.new ≡ record {
+          plan = self.old.plan;
+          facts = facts_after_event self.old.plan self.old.facts (Say command.now);
         } }
     {
-        match event {
-            Event::Heard(slot, pdu) => self.answer_pdu_on(&mut acts.list, slot, pdu),
-            Event::Poll(carrier) => self.answer_poll(&mut acts.list, *carrier),
-            Event::Say(command) => self.answer_command_to(command, acts),
+        match command {
+            Command::Move(lpcn) => self.moving = Some(*lpcn),
+            Command::Stay => self.moving = None,
             _ => {}
         }
     }
 
-    /// Applies an event to the facts, and makes `acts` its answer. A Tick is counted before it is answered.
+    /// Answers an event and applies it to the facts, without its acts. `acts` becomes the answer, whatever it was before.
+    /// A Tick is counted before it is answered.
+    #[tactic(auto, using(crate::proofs::HeldLemmas::marked_held, crate::proofs::HeldLemmas::counted_held))]
     fn answer_and_note(&mut self, event: &Event, acts: &mut Acts)
         ensures acts { acts.new ≡ record {
           list = acts_of self.old.plan self.old.facts event.now;
@@ -361,12 +331,30 @@ impl Machine {
         } }
     {
         acts.clear();
-        if let Event::Tick = event {
-            self.update_facts(event);
-            self.answer_tick(&mut acts.list);
-        } else {
-            self.answer_event(event, acts);
-            self.update_facts(event);
+        match event {
+            Event::Up(carrier) => self.apply_up(*carrier),
+            Event::Lost(carrier) => self.apply_lost(*carrier),
+            Event::Heard(slot, pdu) => self.answer_pdu_on(&mut acts.list, slot, pdu),
+            Event::Noise(slot) => {
+                if self.is_control(slot) {
+                    self.access.noise();
+                }
+            }
+            Event::Active(slot) => self.calls.active(*slot),
+            Event::Poll(carrier) => {
+                self.answer_poll(&mut acts.list, *carrier);
+                if *carrier == self.plan.control() {
+                    self.access.polled();
+                }
+            }
+            Event::Tick => {
+                self.calls.count_tick();
+                self.answer_tick(&mut acts.list);
+            }
+            Event::Say(command) => {
+                self.answer_command_to(command, acts);
+                self.apply_command(command);
+            }
         }
     }
 

@@ -64,12 +64,12 @@ fn is_free(outboxes: &Outboxes, up: &[bool; 16], held: &[bool; 32], slot: &Slot)
     ensures { result ≡ is_free (slots_with outboxes.now up.now held.now) slot.now }
 {
     let carrier = slot.carrier.get() as usize;
-    outboxes.lists().carrier_with(slot.carrier).is_some()
+    !outboxes.is_control(slot)
         && up[carrier]
-        && !outboxes.is_control(slot)
         && !held[slot.index()]
         && outboxes.waiting(slot) == 0
         && !outboxes.is_granted(slot)
+        && outboxes.lists().carrier_with(slot.carrier).is_some()
 }
 
 /// The set of the free slots.

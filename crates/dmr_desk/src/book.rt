@@ -1,6 +1,7 @@
 //! A site and the journal of its events.
 
-ghost use Rattle.std.specs.Prelude.{◌≡◌, ◌<◌, ◌↔◌, length, reverse, IsOk, IsTrue, IfOk, IfErr, OnOk};
+ghost use Rattle.std.specs.Prelude.{◌≡◌, ◌<◌, ◌↔◌, ◌++◌, ◌∷◌, [], length, reverse, vec_len, vec_capacity};
+ghost use Rattle.std.specs.Prelude.{IsOk, IsTrue, IfOk, IfErr, OnOk};
 ghost use Rattle.dmr_link.specs.Runs.{IsSafe};
 ghost use Rattle.dmr_desk.specs.BookState.{IsSoundBook, answer_to, book_with_entry, empty_book};
 ghost use Rattle.dmr_desk.specs.BookState.{site_after_entries};
@@ -43,15 +44,19 @@ impl Model for Book {
         × (b.limit ≤ vec_capacity b.journal) };
 }
 
-/// Makes the entry of an actor's event and its answer.
-fn entry_of(actor: u8, event: &Event, acts: &Acts) -> Entry
-    ensures { result ≡ record { actor = actor; event = event.now; acts = acts.now } }
+/// Enters an actor's event and its answer in a journal that has room for them.
+fn enter(journal: &mut Vec<Entry>, actor: u8, event: &Event, acts: &Acts)
+    requires { vec_len journal.old < vec_capacity journal.old }
+    ensures items { journal.new.items ≡ journal.old.items
+        ++ record { actor = actor; event = event.now; acts = acts.now } ∷ [] }
+    ensures capacity { vec_capacity journal.new ≡ vec_capacity journal.old }
 {
-    Entry {
+    let entry = Entry {
         actor,
         event: *event,
         acts: *acts,
-    }
+    };
+    push_copy(journal, &entry);
 }
 
 impl Book {
@@ -129,7 +134,7 @@ impl Book {
             return Err(TermOver { entries });
         }
         self.site.apply_to(event, acts);
-        push_copy(&mut self.journal, &entry_of(actor, event, acts));
+        enter(&mut self.journal, actor, event, acts);
         Ok(())
     }
 

@@ -5,6 +5,7 @@ ghost use Rattle.std.specs.Prelude.{take, IfErr, IfOk};
 ghost use Rattle.dmr_burst.specs.Functions.{meaning_of};
 ghost use Rattle.dmr_frames.specs.Versions.{chosen_by};
 ghost use Rattle.dmr_core.specs.declared.event.Event.TheVariants.{Lost};
+ghost use Rattle.dmr_link.specs.declared.connection.Connection.TheVariants.{Running};
 ghost use Rattle.dmr_frames.specs.declared.frame.FrameIn.TheVariants as frame;
 ghost use Rattle.dmr_link.specs.Meaning.{IsPiece, event_of_burst as burst_event};
 ghost use Rattle.dmr_link.specs.Notices.{notices_meant};
@@ -113,14 +114,27 @@ fn event_of_burst(slot: Slot, word: &Word196) -> Event
     }
 }
 
-/// Returns whether an RX is a repeat: it has a number, and the newest RX before it has the same. Each number is `None`
-/// if there is none.
-fn is_repeat(newest: Option<u8>, number: Option<u8>) -> bool
-    ensures { (slot : _) (word : _) → result ≡ is_newest_repeat newest (frame.Rx number slot word) }
+/// Makes the number of an RX the newest, and returns whether the RX is a repeat: it has a number, and the newest RX
+/// before it has the same. Each number is `None` if there is none.
+fn replace_newest(newest: &mut Option<u8>, number: Option<u8>) -> bool
+    ensures repeat { (slot : _) (word : _)
+        → result ≡ is_newest_repeat newest.old (frame.Rx number slot word) }
+    ensures newest { newest.new ≡ number }
 {
-    match (newest, number) {
+    match (replace(newest, number), number) {
         (Some(newest), Some(number)) => number == newest,
         _ => false,
+    }
+}
+
+/// Returns the connection of a carrier whose HELLO is accepted: no RX is the newest yet.
+fn running(cutter: &Cutter) -> Connection
+    ensures { result ≡ Running cutter.now None }
+{
+    let cutter = cutter.fork();
+    Connection::Running {
+        cutter,
+        newest: None,
     }
 }
 
@@ -215,13 +229,7 @@ fn outcome_of_first(who: &CarrierIdentity, cutter: &Cutter, step: &Step) -> (Out
                 lpcn,
             },
         ) => match who.check_hello(*version, *carrier, *lpcn) {
-            Ok(version) => (
-                acceptance(who.carrier, version),
-                Connection::Running {
-                    cutter: cutter.fork(),
-                    newest: None,
-                },
-            ),
+            Ok(version) => (acceptance(who.carrier, version), running(cutter)),
             Err(refusal) => {
                 let hello = Hello {
                     version: *version,
@@ -248,8 +256,7 @@ fn outcome_of_step(carrier: CarrierNo, newest: &mut Option<u8>, step: &Step) -> 
         Step::Need => Outcome::NOTHING,
         Step::Fault(cause) => loss(carrier, Closing::Bad(*cause)),
         Step::Frame(FrameIn::Rx { number, slot, word }) => {
-            let before = replace(newest, *number);
-            if is_repeat(before, *number) {
+            if replace_newest(newest, *number) {
                 return Outcome::NOTHING;
             }
             event_outcome(event_of_burst(Slot::new(carrier, *slot), word))

@@ -77,13 +77,6 @@ fn hello(version: u8) -> FrameIn {
 /// Octets, and the frame that the last of them yields.
 type FrameOctets<'a> = (&'a [u8], FrameIn);
 
-/// Feeds frames that come whole.
-fn expect_frames(rt: &impl Abort, cutter: &mut Cutter, frames: &[FrameOctets<'_>]) {
-    for (octets, frame) in frames {
-        expect_last(rt, cutter, *octets, Step::Frame(*frame));
-    }
-}
-
 /// Feeds a POLL, an ACTIVE of slot 1 and a BYE.
 fn expect_short_frames(rt: &impl Abort, cutter: &mut Cutter) {
     let slot = SlotNo::new(1);
@@ -92,7 +85,9 @@ fn expect_short_frames(rt: &impl Abort, cutter: &mut Cutter) {
         (&[0x04, 0x01, 0x01], FrameIn::Active { slot }),
         (&[0x05, 0x00], FrameIn::Bye),
     ];
-    expect_frames(rt, cutter, &frames);
+    for (octets, frame) in &frames {
+        expect_last(rt, cutter, *octets, Step::Frame(*frame));
+    }
 }
 
 /// TX on slot 0 with the acknowledgement of a registration, from the format's test vectors.
@@ -121,7 +116,8 @@ const WRITTEN: [(FrameOut, &[u8]); 5] = [
 
 /// Checks the octets of a frame.
 fn expect_octets(rt: &impl Abort, frame: FrameOut, want: &[u8]) {
-    assert_eq!(rt; write_frame(&frame).as_slice(), want);
+    let written = write_frame(&frame);
+    expect_same(rt, want.len(), written.as_slice(), want);
 }
 
 #[test]
@@ -140,7 +136,7 @@ fn frames_written(rt: HostRuntime) {
 
 /// Checks which frame octets are in a version.
 fn expect_whole(rt: &impl Abort, version: Version, octets: &[u8], want: Option<FrameIn>) {
-    assert_eq!(rt; whole_frame(version, octets), want, "at {octets:?}");
+    expect_same(rt, octets.len(), whole_frame(version, octets), want);
 }
 
 #[test]
@@ -200,7 +196,7 @@ fn expect_text<F: Display>(
     want: &str,
 ) -> Result<(), OutOfMemory> {
     let text = format!(in rt.alloc(); "{frame}")?;
-    assert_eq!(rt; text.as_str(), want);
+    expect_same(rt, "text", text.as_str(), want);
     Ok(())
 }
 

@@ -1,5 +1,5 @@
-//! Tests with worked values of the crates below the engine: bits, codes, bursts, PDUs, small types, frames, a table,
-//! ports in memory, console lines and replies.
+//! Tests with worked values of the crates below the engine: bits, codes, bursts, PDUs, small types, frames, ports in
+//! memory, console lines and replies.
 //!
 //! The crate holds only tests. They are above the crates that they test, since a crate with tests is proved twice.
 #![tactic(auto)]
@@ -22,7 +22,5 @@ mod lines;
 mod pdus;
 #[cfg(test)]
 mod small_types;
-#[cfg(test)]
-mod table;
 #[cfg(test)]
 mod wire;

@@ -36,7 +36,7 @@ fn check_line<L: Listener>(
     let wanted = wanted.strip_prefix(' ').unwrap_or(wanted);
     let mut said = String::new(rt.alloc());
     listener.answer_input(input, &mut said)?;
-    assert_eq!(rt; said.as_str(), wanted, "{name}: {line}");
+    expect_same(rt, name, (line, said.as_str()), (line, wanted));
     Ok(())
 }
 

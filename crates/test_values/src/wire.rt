@@ -4,6 +4,7 @@ use crate::lines::{Listener, check_lines, cut};
 use dmr_pdu::OutOfMemory;
 use dmr_wire::{Connect, Got, MemoryPort, Port, Put, Step, Waited, Wire};
 use std::alloc::Global;
+use std::fmt::Debug;
 use std::test::Fail;
 
 /// A port in memory, and its answers.
@@ -221,16 +222,21 @@ impl Listener for MemoryPort {
     fn answer_input(&mut self, input: &str, said: &mut String) -> Result<(), OutOfMemory> {
         let (word, text) = cut(input);
         match word {
-            "connect" => write!(said, "{:?}", self.connect()),
-            "wait" => write!(said, "{:?}", self.wait()),
+            "connect" => write_debug(said, &self.connect()),
+            "wait" => write_debug(said, &self.wait()),
             "read" => read(said, self),
             "write" => write(said, self, text.as_bytes()),
-            "echo" => write!(said, "{}", echoes_once(self)),
-            "entries" => write!(said, "{:?}", self.entries()),
+            "echo" => write_debug(said, &echoes_once(self)),
+            "entries" => write_debug(said, &self.entries()),
             "taken" => write_octets(said, self.taken()),
             _ => said.push_str("?"),
         }
     }
+}
+
+/// Writes a value as the code names it.
+fn write_debug<D: Debug>(said: &mut String, value: &D) -> Result<(), OutOfMemory> {
+    write!(said, "{value:?}")
 }
 
 /// Writes octets as characters.
@@ -245,7 +251,8 @@ fn write_octets(said: &mut String, octets: &[u8]) -> Result<(), OutOfMemory> {
 fn read(said: &mut String, port: &mut MemoryPort) -> Result<(), OutOfMemory> {
     let mut octets = [b'.'; 4];
     let got = port.read(&mut octets);
-    write!(said, "{got:?} ")?;
+    write_debug(said, &got)?;
+    said.push_str(" ")?;
     write_octets(said, &octets)
 }
 
@@ -254,8 +261,7 @@ fn write(said: &mut String, port: &mut MemoryPort, octets: &[u8]) -> Result<(), 
     if octets.is_empty() {
         return said.push_str("?");
     }
-    let put = port.write(octets);
-    write!(said, "{put:?}")
+    write_debug(said, &port.write(octets))
 }
 
 /// Serves one connection: writes the octets of one read back once, and waits for the port once. It uses only the

@@ -1,15 +1,17 @@
 //! Tests of the texts and statuses of faults, and of a replay to a writer that takes nothing.
 
+use crate::kept::expect_same;
 use crate::site::SITE;
 use dmr_command::ServeFault;
 use dmr_desk::{CloseFault, OpenFault, TermFault};
 use dmr_pdu::OutOfMemory;
 use dmr_replay::replay;
+use std::alloc::Global;
 use std::io;
 use std::io::Write;
 
 /// Faults of serving, each with its text and its status.
-const FAULTS: [(ServeFault, &str, u8); 8] = [
+static FAULTS: [(ServeFault, &str, u8); 8] = [
     (
         ServeFault::CannotListen(7101),
         "cannot listen on port 7101",
@@ -56,30 +58,40 @@ impl Write for Refusing {
 
 #[test]
 fn texts_and_statuses(rt: HostRuntime) -> Result<(), OutOfMemory> {
-    for (fault, text, status) in FAULTS {
+    for (fault, text, status) in &FAULTS {
         let told = format!(in rt.alloc(); "{fault}")?;
-        assert_eq!(rt; told.as_str(), text);
-        assert_eq!(rt; fault.status(), status);
+        expect_same(&rt, "fault", *status, told.as_str(), *text);
+        expect_same(&rt, text, "status", fault.status(), *status);
     }
     Ok(())
+}
+
+/// Replays a script at a site, and returns the status.
+fn status_of<O: Write, E: Write>(
+    alloc: Global,
+    site: Option<&[u8]>,
+    script: Option<&[u8]>,
+    out: &mut O,
+    err: &mut E,
+) -> u8 {
+    replay(alloc, "the.toml", site, "the.txt", script, out, err)
 }
 
 #[test]
 fn output_that_is_not_taken(rt: HostRuntime) {
     let mut err = Vec::new(rt.alloc());
-    let status = replay(
-        rt.alloc(),
-        "the.toml",
-        Some(SITE.as_bytes()),
-        "the.txt",
-        Some(b"open 0\n"),
-        &mut Refusing,
-        &mut err,
+    let site = Some(SITE.as_bytes());
+    let status = status_of(rt.alloc(), site, Some(b"open 0\n"), &mut Refusing, &mut err);
+    expect_same(
+        &rt,
+        "output",
+        "text",
+        err.as_slice(),
+        b"dmr_trunk: cannot write\n".as_slice(),
     );
-    assert_eq!(rt; err.as_slice(), b"dmr_trunk: cannot write\n".as_slice());
-    assert_eq!(rt; status, 1);
+    expect_same(&rt, "output", "status", status, 1);
     // A fault that cannot be written is ignored.
     let mut out = Vec::new(rt.alloc());
-    let status = replay(rt.alloc(), "a", None, "b", None, &mut out, &mut Refusing);
-    assert_eq!(rt; status, 1);
+    let status = status_of(rt.alloc(), None, None, &mut out, &mut Refusing);
+    expect_same(&rt, "fault", "status", status, 1);
 }

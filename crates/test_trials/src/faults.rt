@@ -4,23 +4,26 @@
 
 mod peers;
 mod rows;
-mod stage;
-mod steps;
 
 use self::peers::SitePeer;
 use self::rows::ROWS;
-use self::stage::{FaultOutcome, FaultStage};
-use self::steps::add_steps;
-use crate::kept::known;
+use crate::kept::expect_same;
+use crate::terms::meeting::Hold;
+use crate::terms::spelling::write_letters;
+use crate::terms::stage::{
+    CONSOLE, Carrier, Opening, TermOutcome, TermStage, new_stage, port_of_actor, run,
+};
 use dmr_desk::Ending;
 use dmr_frames::{Cause, Version};
 use dmr_link::Ended;
-use dmr_wire::Step;
 use std::alloc::{AllocError, Global};
 use std::process::Abort;
 use std::sync::Wait;
 use std::test::Fail;
 use std::thread::Threads;
+
+/// A limit of entries that no term here reaches.
+const AMPLE: usize = 1000;
 
 /// The expected result of a term.
 #[derive(Clone, Copy)]
@@ -54,11 +57,56 @@ fn try_part<R: Abort + AllocGlobal + Wait + Threads + Sync>(
     rt: &R,
     part: &str,
 ) -> Result<(), Fail> {
-    let (title, rows) = part.split_once("\n").ok_or("the line of rows")?;
-    let (peer, name) = title.split_once(": ").ok_or("the peer of rows")?;
-    let peer = SitePeer::of_name(peer).ok_or("the peer of rows")?;
+    let (peer, name, rows) = peer_of(part).ok_or("the peer of rows")?;
     for row in rows.lines() {
         try_rounds(rt, peer, name, row)?;
+    }
+    Ok(())
+}
+
+/// Returns the peer of rows, their name, and the rows.
+fn peer_of(part: &str) -> Option<(SitePeer, &str, &str)> {
+    let (title, rows) = part.split_once("\n")?;
+    let (peer, name) = title.split_once(": ")?;
+    Some((SitePeer::of_name(peer)?, name, rows))
+}
+
+/// Returns the first and last round of a row, and the words after them.
+fn rounds_of(row: &str) -> Option<(usize, usize, &str)> {
+    let (rounds, row) = row.split_once(": ")?;
+    let (first, last) = rounds.split_once(" to ")?;
+    Some((
+        first.parse::<usize>().ok()?,
+        last.parse::<usize>().ok()?,
+        row,
+    ))
+}
+
+/// Returns the steps of a row, and the expected result.
+fn expected_of(peer: SitePeer, row: &str) -> Option<(&str, ExpectedTerm<'_>)> {
+    let (steps, rest) = row.split_once(" => ")?;
+    let (events, rest) = rest.split_once("; ")?;
+    let (octets, ended) = rest.split_once("; ")?;
+    let want = ExpectedTerm {
+        peer,
+        events: if events == "-" { "" } else { events },
+        octets,
+        ended: ended_of(ended)?,
+    };
+    Some((steps, want))
+}
+
+/// Runs the terms of a row, one in each of its rounds.
+fn try_rounds<R: Abort + AllocGlobal + Wait + Threads + Sync>(
+    rt: &R,
+    peer: SitePeer,
+    name: &str,
+    row: &str,
+) -> Result<(), Fail> {
+    let (first, last, row) = rounds_of(row).ok_or("the rounds of a row")?;
+    let (steps, want) = expected_of(peer, row).ok_or("a row")?;
+    for round in first..=last {
+        try_term(rt, name, steps, &want, round)?;
     }
     Ok(())
 }
@@ -75,23 +123,6 @@ fn lengths_of_frames(rt: HostRuntime) -> Result<(), Fail> {
     Ok(())
 }
 
-/// Runs the terms of a row, one in each of its rounds.
-fn try_rounds<R: Abort + AllocGlobal + Wait + Threads + Sync>(
-    rt: &R,
-    peer: SitePeer,
-    name: &str,
-    row: &str,
-) -> Result<(), Fail> {
-    let (rounds, row) = row.split_once(": ").ok_or("the rounds of a row")?;
-    let (first, last) = rounds.split_once(" to ").ok_or("the rounds of a row")?;
-    let first = first.parse::<usize>().ok().ok_or("the first round")?;
-    let last = last.parse::<usize>().ok().ok_or("the last round")?;
-    for round in first..=last {
-        try_row(rt, peer, name, row, round)?;
-    }
-    Ok(())
-}
-
 /// Runs the term of a type of frames in this version of the link, with each length but the right one. `first` is the
 /// right length of the first frame, which is of version 1, and `later` that of a later frame.
 fn try_lengths<R: Abort + AllocGlobal + Wait + Threads + Sync>(
@@ -102,17 +133,19 @@ fn try_lengths<R: Abort + AllocGlobal + Wait + Threads + Sync>(
     later: usize,
 ) -> Result<(), Fail> {
     let octet = version.octet();
-    let before = format!(in rt.alloc(); "connect, hex {kind}NN")?;
-    let behind = format!(in rt.alloc(); "connect, hex 01040{octet}000001{kind}NN")?;
-    let mut steps = Vec::new(rt.alloc());
-    let texts = (before.as_str(), behind.as_str());
-    let added = add_lengths(rt.alloc(), &mut steps, texts, first, later);
-    let steps = known(added, steps)?;
+    let behind = format!(in rt.alloc(); "01040{octet}000001{kind}")?;
+    let mut steps = String::new(rt.alloc());
     let mut events = String::new(rt.alloc());
     let mut octets = String::from_str(rt.alloc(), "0")?;
-    for _ in 0..255 {
-        events.push_str("UL")?;
-        octets.push_str(" 3")?;
+    for length in 0..256usize {
+        if length != first {
+            add_length(&mut steps, kind, length)?;
+        }
+        if length != later {
+            add_length(&mut steps, behind.as_str(), length)?;
+            events.push_str("UL")?;
+            octets.push_str(" 3")?;
+        }
     }
     let want = ExpectedTerm {
         peer: SitePeer::Carrier(version),
@@ -120,71 +153,66 @@ fn try_lengths<R: Abort + AllocGlobal + Wait + Threads + Sync>(
         octets: octets.as_str(),
         ended: Ended::BadFrame(Cause::BadLength),
     };
-    let calls = try_term(rt, kind, steps, &want, later)?;
+    let calls = try_term(rt, kind, steps.as_str(), &want, later)?;
     // For each length: a connect and a read, then a connect, a read and a write. Then the last connect.
-    assert_eq!(rt; calls, Some(5 * 255 + 1), "{kind}, version {octet}");
+    expect_same(rt, kind, octet, calls, Some(5 * 255 + 1));
     Ok(())
 }
 
-/// Adds the steps of two connections for each length: one whose first frame has it, and one that has it in a later
-/// frame. The right lengths, `first` and `later`, are left out.
-fn add_lengths(
-    alloc: Global,
-    steps: &mut Vec<Step>,
-    texts: (&str, &str),
-    first: usize,
-    later: usize,
-) -> Result<bool, AllocError> {
-    let (before, behind) = texts;
-    let mut known = true;
-    for length in 0..256usize {
-        if length != first {
-            known = add_steps(alloc, steps, &[], before, length)? && known;
-        }
-        if length != later {
-            known = add_steps(alloc, steps, &[], behind, length)? && known;
-        }
+/// Adds a connection with the octets before a length, and the length.
+fn add_length(steps: &mut String, before: &str, length: usize) -> Result<(), AllocError> {
+    if !steps.is_empty() {
+        steps.push_str(", ")?;
     }
-    Ok(known)
+    write!(steps, "connect, hex {before}{length:02X}")
 }
 
-/// Runs the term of a row in one round.
-fn try_row<R: Abort + AllocGlobal + Wait + Threads + Sync>(
-    rt: &R,
+/// Returns a carrier whose port answers by these steps. Nothing is held.
+fn free_carrier(steps: &str) -> Carrier<'_> {
+    Carrier {
+        steps,
+        gate: Hold::Free,
+        wait: Hold::Free,
+    }
+}
+
+/// Returns a quiet site with one peer, whose port answers by these steps.
+fn stage_of<'a>(
+    alloc: Global,
     peer: SitePeer,
-    name: &str,
-    row: &str,
+    steps: &str,
     round: usize,
-) -> Result<(), Fail> {
-    let (steps, rest) = row.split_once(" => ").ok_or("the steps of a row")?;
-    let (events, rest) = rest.split_once("; ").ok_or("the events of a row")?;
-    let (octets, ended) = rest.split_once("; ").ok_or("the octets of a row")?;
-    let want = ExpectedTerm {
-        peer,
-        events: if events == "-" { "" } else { events },
-        octets,
-        ended: ended_of(ended).ok_or("the ending of a row")?,
+) -> Result<TermStage<'a>, Fail> {
+    let (carrier, operator, greatest) = match peer {
+        SitePeer::Carrier(greatest) => (steps, "", greatest),
+        SitePeer::Operator => ("", steps, Version::V1),
     };
-    let mut answers = Vec::new(rt.alloc());
-    let added = add_steps(rt.alloc(), &mut answers, peer.input(), steps, round);
-    try_term(rt, name, known(added, answers)?, &want, round)?;
-    Ok(())
+    let opening = Opening {
+        numbers: &[0, 1],
+        first: free_carrier(carrier),
+        second: free_carrier(""),
+        greatest,
+        paces: &[],
+        pacer: Hold::Free,
+        operator,
+        input: (peer.input(), round),
+    };
+    new_stage(alloc, None, &opening)
 }
 
 /// Runs the term of these steps and compares its result. Returns the number of calls that the peer's port answered.
 fn try_term<R: Abort + AllocGlobal + Wait + Threads + Sync>(
     rt: &R,
     name: &str,
-    steps: Vec<Step>,
+    steps: &str,
     want: &ExpectedTerm<'_>,
     round: usize,
 ) -> Result<Option<usize>, Fail> {
-    let outcome = FaultStage::new(rt.alloc(), want.peer, steps)?.run(rt, rt.alloc())?;
+    let stage = stage_of(rt.alloc(), want.peer, steps, round)?;
+    let outcome = run(rt, rt.alloc(), stage, AMPLE)?;
     let compared = compare(rt, name, &outcome, want, round);
-    let calls = outcome.calls();
     drop(outcome);
-    compared?;
-    Ok(calls)
+    compared
 }
 
 /// Returns the ending with this name.
@@ -203,22 +231,48 @@ fn ended_of(name: &str) -> Option<Ended> {
     }
 }
 
-/// Compares the result of a term with the expected one.
+/// Compares the result of a term with the expected one. Returns the number of calls that the peer's port answered, or
+/// `None` if it keeps no record.
 fn compare(
     rt: &(impl Abort + AllocGlobal),
     name: &str,
-    outcome: &FaultOutcome<'_>,
+    outcome: &TermOutcome<'_>,
     want: &ExpectedTerm<'_>,
     round: usize,
-) -> Result<(), Fail> {
+) -> Result<Option<usize>, Fail> {
+    let actor = match want.peer {
+        SitePeer::Carrier(_) => 0,
+        SitePeer::Operator => CONSOLE,
+    };
     let ends = [Ending::Finished; 4];
-    assert_eq!(rt; outcome.ends(), ends.as_slice(), "{name}, {round}");
-    let letters = outcome.letters(rt.alloc())?;
-    assert_eq!(rt; letters.as_str(), want.events, "{name}, {round}");
-    assert_eq!(rt; outcome.entries(), want.events.len(), "{name}, {round}");
+    expect_same(rt, name, round, outcome.ends.as_slice(), ends.as_slice());
+    let mut letters = String::new(rt.alloc());
+    write_letters(&mut letters, actor, &outcome.report.views)?;
+    expect_same(rt, name, round, letters.as_str(), want.events);
+    let entries = outcome.report.journal.as_slice().len();
+    expect_same(rt, name, round, entries, want.events.len());
     let octets = want.peer.answered(rt.alloc(), want.octets, round)?;
     let octets = octets.ok_or("how many octets")?;
-    assert_eq!(rt; outcome.taken(), octets.as_slice(), "{name}, {round}");
-    assert_eq!(rt; outcome.ended(), Some(want.ended), "{name}, {round}");
-    Ok(())
+    let port = port_of_actor(outcome.stations.as_slice(), &outcome.console, actor);
+    let port = port.ok_or("a port")?;
+    expect_same(rt, name, round, port.taken(), octets.as_slice());
+    let ended = ended_link(outcome, actor);
+    expect_same(rt, name, round, ended, Some(want.ended));
+    Ok(port.entries().map(|entries| entries.len()))
+}
+
+/// Returns how the last connection of the peer's link ended. `None` if the link is live.
+fn ended_link(outcome: &TermOutcome<'_>, actor: usize) -> Option<Ended> {
+    let (is_live, closing) = if actor == CONSOLE {
+        let link = &outcome.console.link;
+        (link.live(), link.closing())
+    } else {
+        let link = &outcome.stations.first()?.link;
+        (link.live(), link.closing())
+    };
+    if is_live {
+        None
+    } else {
+        Some(Ended::from(closing))
+    }
 }

@@ -1,13 +1,10 @@
-//! Functions that are generic in what they keep. A test that owns a site, a desk or a port, and can end while it does,
-//! is expensive to prove; a call of one of these is cheap.
+//! Functions that are generic in what they keep or compare. A test that owns a site, a desk or a port, and can end while
+//! it does, is expensive to prove, and so is an assertion; a call of one of these is cheap.
 
-use dmr_pdu::OutOfMemory;
-use dmr_wire::{MemoryPort, Step};
-use std::alloc::{AllocError, Global};
+use std::alloc::AllocError;
+use std::fmt::{Debug, Display};
+use std::process::Abort;
 use std::test::Fail;
-
-/// The room of a port's record, in answers and in octets.
-const ROOM: usize = 4096;
 
 /// Returns `value` if something was done, and otherwise the fault.
 pub fn keep<T: Drop, E>(done: Result<(), E>, value: T) -> Result<T, E> {
@@ -31,14 +28,6 @@ pub fn push<T: Drop>(list: &mut Vec<T>, item: T) -> Result<(), AllocError> {
     Ok(())
 }
 
-/// Returns a list of two items.
-pub fn two<T: Drop>(alloc: Global, first: T, second: T) -> Result<Vec<T>, AllocError> {
-    let mut list = Vec::new(alloc);
-    list.push(first)?;
-    list.push(second)?;
-    Ok(list)
-}
-
 /// Returns the three items of a list, or `None` if it has fewer.
 pub fn three<T: Drop>(list: Vec<T>) -> Option<(T, T, T)> {
     let mut list = list;
@@ -49,7 +38,7 @@ pub fn three<T: Drop>(list: Vec<T>) -> Option<(T, T, T)> {
 }
 
 /// Drops what is handed back with a fault.
-fn without_rest<T, E, B: Drop>(made: Result<T, (E, B)>) -> Result<T, E> {
+pub fn without_rest<T, E, B: Drop>(made: Result<T, (E, B)>) -> Result<T, E> {
     match made {
         Ok(made) => Ok(made),
         Err((fault, rest)) => {
@@ -59,17 +48,6 @@ fn without_rest<T, E, B: Drop>(made: Result<T, (E, B)>) -> Result<T, E> {
     }
 }
 
-/// Returns a port of these steps.
-pub fn port_of(alloc: Global, steps: Vec<Step>) -> Result<MemoryPort, OutOfMemory> {
-    without_rest(MemoryPort::new(alloc, steps, ROOM))
-}
-
-/// Adds a step that feeds these octets.
-pub fn push_feed(alloc: Global, steps: &mut Vec<Step>, octets: &[u8]) -> Result<(), AllocError> {
-    let octets = octets.to_vec(alloc)?;
-    push(steps, Step::Feed(octets))
-}
-
 /// Returns a list if a word of its items was known, and otherwise a fault.
 pub fn known<T: Drop>(known: Result<bool, AllocError>, list: T) -> Result<T, Fail> {
     match known {
@@ -77,4 +55,15 @@ pub fn known<T: Drop>(known: Result<bool, AllocError>, list: T) -> Result<T, Fai
         Ok(false) => Err("a step".into()),
         Err(refused) => Err(refused.into()),
     }
+}
+
+/// Checks that a value is the expected one. `case` and `number` name it in a failure.
+pub fn expect_same<V: Copy + PartialEq + Debug, N: Copy + Display>(
+    rt: &impl Abort,
+    case: &str,
+    number: N,
+    value: V,
+    wanted: V,
+) {
+    assert_eq!(rt; value, wanted, "{case}, {number}");
 }

@@ -14,9 +14,9 @@ mod faults;
 #[cfg(test)]
 mod kept;
 #[cfg(test)]
-mod shared;
-#[cfg(test)]
 mod site;
+#[cfg(test)]
+mod steps;
 #[cfg(test)]
 mod terms;
 #[cfg(test)]

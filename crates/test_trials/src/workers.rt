@@ -4,19 +4,17 @@
 ghost use Rattle.dmr_desk.specs.Opening.{IsBlankFor};
 ghost use Rattle.dmr_desk.specs.Seats.{opened};
 
-use crate::kept::{both, three};
+use crate::kept::{both, expect_same, three};
 use crate::site::quiet_site;
-use crate::terms::meeting::{Hold, Meeting, MeetingPacer};
+use crate::terms::compare_part;
 use crate::terms::spelling::Letters;
-use crate::terms::stage::{Carrier, CarrierStation, console_of, station_of};
-use crate::terms::stories::NO_CARRIER;
-use crate::terms::{compare_events, compare_octets};
+use crate::terms::stage::{CONSOLE, Carrier, Opening, TermStage, new_stage, octets_taken};
+use crate::terms::stories::{NO_CARRIER, NOTHING_COMES};
 use dmr_core::Site;
 use dmr_desk::{
-    ConsoleStation, DeskLedger, Ending, PARTS, Pace, Report, Seat, SeatAt, SharedDesk,
-    work_carrier, work_console, work_ticker,
+    DeskLedger, Ending, PARTS, Pace, Report, Seat, SeatAt, SharedDesk, work_carrier, work_console,
+    work_ticker,
 };
-use dmr_wire::{Got, MemoryPort};
 use std::alloc::Global;
 use std::marker::Brand;
 use std::process::Abort;
@@ -24,43 +22,25 @@ use std::sync::Wait;
 use std::sync::ledger::Blank;
 use std::test::Fail;
 
-/// The events of each actor, by number, and the octets that its port took. The ticker has no port.
-const WANTED: [(Letters, Letters); 3] = [
-    (&[(1, "UPPL")], &[(1, "WFDFD")]),
-    (&[(3, "T")], &[]),
-    (&[(1, "S")], &[(1, "S")]),
+/// The number of an actor in a term that has its port, the events of its view, and the octets that its port took. The
+/// ticker has no port.
+const WANTED: [(usize, (Letters, Letters)); 3] = [
+    (0, (&[(1, "UPPL")], &[(1, "WFDFD")])),
+    (2, (&[(3, "T")], &[])),
+    (CONSOLE, (&[(1, "S")], &[(1, "S")])),
 ];
 
-/// The carrier: it sends HELLO and two POLLs.
-const CARRIER: Carrier = Carrier {
-    connections: &[(2, Got::End)],
-    ..NO_CARRIER
+/// A carrier that sends HELLO and two POLLs, three ticks, and an operator who asks for the status.
+const OPENING: Opening<'static> = Opening {
+    numbers: &[0],
+    first: Carrier {
+        steps: "not yet, connect, read block, again, hex 010401000001, 2 x hex 0300, read end",
+        ..NO_CARRIER
+    },
+    paces: &[Pace::Tick, Pace::Tick, Pace::Tick],
+    operator: "connect, hex 7374617475730A",
+    ..NOTHING_COMES
 };
-
-/// The answers of the pacer: three ticks.
-const PACES: &[Pace] = &[Pace::Tick, Pace::Tick, Pace::Tick];
-
-/// The station, pacer and console that the three workers serve.
-#[derive(Drop)]
-struct Served<'a> {
-    station: CarrierStation<'a>,
-    pacer: MeetingPacer<'a>,
-    console: ConsoleStation<MemoryPort>,
-}
-
-/// Returns the carrier's station, three ticks, and an operator who asks for the status.
-fn new_served<'a>(alloc: Global) -> Result<Served<'a>, Fail> {
-    let station = station_of(alloc, None, 0, &CARRIER)?;
-    let (station, console) = both(station, console_of(alloc, b"status\n"))?;
-    Ok(Served {
-        station,
-        pacer: MeetingPacer {
-            paces: PACES,
-            meeting: Meeting::new(None, 1, Hold::Free),
-        },
-        console,
-    })
-}
 
 /// Why each worker ended: the carrier's, the ticker's and the console's.
 type Ends = [Ending; 3];
@@ -70,17 +50,18 @@ fn serve_all<L: DeskLedger, R: Wait>(
     rt: &R,
     desk: &SharedDesk<L>,
     seats: (Seat<L>, Seat<L>, Seat<L>),
-    served: &mut Served<'_>,
+    served: &mut TermStage<'_>,
 ) -> (Ends, [Seat<L>; 3]) {
     let (first, second, third) = seats;
     let mut carrier_at = SeatAt::new(rt, desk, first);
     let mut ticker_at = SeatAt::new(rt, desk, second);
     let mut console_at = SeatAt::new(rt, desk, third);
-    let ends = [
-        work_carrier(rt, &mut served.station, &mut carrier_at),
-        work_ticker(rt, &mut served.pacer, &mut ticker_at),
-        work_console(rt, &mut served.console, &mut console_at),
-    ];
+    let mut ends = [Ending::TermOver; 3];
+    for station in served.stations.iter_mut() {
+        ends[0] = work_carrier(rt, station, &mut carrier_at);
+    }
+    ends[1] = work_ticker(rt, &mut served.pacer, &mut ticker_at);
+    ends[2] = work_console(rt, &mut served.console, &mut console_at);
     let seats = [
         carrier_at.into_seat(),
         ticker_at.into_seat(),
@@ -95,7 +76,7 @@ fn work_over<L: DeskLedger, R: Wait>(
     alloc: Global,
     blank: Blank,
     site: Site,
-    served: &mut Served<'_>,
+    served: &mut TermStage<'_>,
 ) -> Option<(Ends, Report)>
     requires { IsBlankFor L.name L.parts L.desk (opened site 100 3) blank }
 {
@@ -111,7 +92,7 @@ fn work_all<R: Wait>(
     rt: &R,
     alloc: Global,
     site: Site,
-    served: &mut Served<'_>,
+    served: &mut TermStage<'_>,
 ) -> Option<(Ends, Report)> {
     work_over::<Brand, R>(rt, alloc, Blank::new(PARTS), site, served)
 }
@@ -120,32 +101,28 @@ fn work_all<R: Wait>(
 /// ticks, are deposited, and the answers are written.
 #[test]
 fn workers(rt: HostRuntime) -> Result<(), Fail> {
-    let served = new_served(rt.alloc())?;
+    let served = new_stage(rt.alloc(), None, &OPENING)?;
     let (mut served, site) = both(served, quiet_site(rt.alloc()))?;
     let worked = work_all(&rt, rt.alloc(), site, &mut served).ok_or("a report");
     let (served, (ends, report)) = both(served, worked)?;
-    assert_eq!(rt; ends, [Ending::Finished; 3]);
     let compared = compare(&rt, &served, &report);
     drop(served);
     drop(report);
+    expect_same(&rt, "workers", "ends", ends, [Ending::Finished; 3]);
     compared
 }
 
 /// Compares the events that were deposited and the octets that were written with the expected ones.
 fn compare(
     rt: &(impl Abort + AllocGlobal),
-    served: &Served<'_>,
+    served: &TermStage<'_>,
     report: &Report,
 ) -> Result<(), Fail> {
-    assert_eq!(rt; report.journal.as_slice().len(), 8);
-    let taken = [
-        served.station.port.port.taken(),
-        &[],
-        served.console.port.taken(),
-    ];
-    for (actor, (events, octets)) in WANTED.iter().enumerate() {
-        compare_events(rt, "workers", actor, &report.views, *events)?;
-        compare_octets(rt, "workers", actor, taken[actor], *octets)?;
+    let entries = report.journal.as_slice().len();
+    expect_same(rt, "workers", "entries", entries, 8);
+    for (view, (actor, want)) in WANTED.iter().enumerate() {
+        let taken = octets_taken(served.stations.as_slice(), &served.console, *actor);
+        compare_part(rt, "workers", view, &report.views, taken, *want)?;
     }
     Ok(())
 }

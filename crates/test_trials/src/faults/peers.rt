@@ -1,10 +1,11 @@
 //! The peers of a site, their input, and the site's answers to it.
 
+use crate::steps::number;
 use dmr_frames::Version;
 use std::alloc::{AllocError, Global};
 
 /// A peer of the site.
-#[derive(Clone, Copy, Debug, PartialEq, Eq)]
+#[derive(Clone, Copy)]
 pub enum SitePeer {
     /// Carrier 0. It speaks this version of the link, which is also the greatest that the site serves to it.
     Carrier(Version),
@@ -94,14 +95,5 @@ impl SitePeer {
             }
         }
         Ok(Some(octets))
-    }
-}
-
-/// Returns the number that a word means. `N` is the number of the round.
-pub fn number(word: &str, round: usize) -> Option<usize> {
-    if word == "N" {
-        Some(round)
-    } else {
-        word.parse::<usize>().ok()
     }
 }

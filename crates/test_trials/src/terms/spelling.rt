@@ -50,8 +50,8 @@ pub fn octets_of(alloc: Global, letters: Letters) -> Result<Vec<u8>, AllocError>
 
 /// Writes the events of an actor's view, a letter for each.
 ///
-/// U is Up, P Poll and L Lost of the carrier with the actor's number. T is a tick, S the command `status`, and ? any
-/// other event.
+/// U is Up, H Heard, N Noise, P Poll and L Lost of the carrier with the actor's number. T is a tick, S the command
+/// `status`, Y is `stay`, and ? is any other event.
 pub fn write_letters(text: &mut String, actor: usize, views: &Views) -> Result<(), AllocError> {
     let Some(view) = views.as_slice().get(actor) else {
         return text.push_str("no view");
@@ -66,10 +66,13 @@ pub fn write_letters(text: &mut String, actor: usize, views: &Views) -> Result<(
 fn letter_of(event: &Event, actor: usize) -> char {
     let (carrier, letter) = match event {
         Event::Up(carrier) => (carrier.get(), 'U'),
+        Event::Heard(slot, _) => (slot.carrier.get(), 'H'),
+        Event::Noise(slot) => (slot.carrier.get(), 'N'),
         Event::Poll(carrier) => (carrier.get(), 'P'),
         Event::Lost(carrier) => (carrier.get(), 'L'),
         Event::Tick => return 'T',
         Event::Say(Command::Status) => return 'S',
+        Event::Say(Command::Stay) => return 'Y',
         _ => return '?',
     };
     if carrier as usize == actor {

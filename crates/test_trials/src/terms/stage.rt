@@ -1,32 +1,30 @@
 //! A site of two carriers with its stations, pacer and console, from term to term.
 
 use super::meeting::{Counts, Hold, Meeting, MeetingPacer, MeetingPort};
-use super::stories::{NO_CARRIER, NOTHING_COMES};
-use crate::kept::{both, keep, port_of, push, push_feed, two};
+use super::stories::NO_CARRIER;
+use crate::kept::{both, keep, push};
 use crate::site::quiet_site;
-use dmr_core::Site;
+use crate::steps::port_of;
 use dmr_desk::{
-    ConsoleStation, Pace, Refused, Report, Service, SpareLists, Station, Term, TermFault, run_term,
-    try_term,
+    ConsoleStation, Pace, Report, Service, SpareLists, Station, Term, TermFault, run_term,
 };
 use dmr_frames::Version;
 use dmr_link::{ConsoleLink, Link};
 use dmr_pdu::{CarrierNo, Lpcn};
-use dmr_wire::{Connect, Got, MemoryPort, Step, Waited};
-use std::alloc::{AllocError, Global};
+use dmr_wire::MemoryPort;
+use std::alloc::Global;
 use std::sync::Wait;
-use std::sync::atomic::AtomicU64;
 use std::test::Fail;
 use std::thread::Threads;
 
 /// The console's number among the actors.
-const CONSOLE: usize = 3;
+pub const CONSOLE: usize = 3;
 
 /// The input of a carrier, and its holds.
-#[derive(Drop)]
-pub struct Carrier {
-    /// Its connections: the number of POLLs after its HELLO, and the answer of the read after them.
-    pub connections: &'static [(usize, Got)],
+#[derive(Clone, Copy)]
+pub struct Carrier<'a> {
+    /// The steps of its port.
+    pub steps: &'a str,
     /// The hold of the first entry of its gate.
     pub gate: Hold,
     /// The hold of the first silence of its port.
@@ -34,222 +32,109 @@ pub struct Carrier {
 }
 
 /// The state at the beginning of the first term.
-#[derive(Drop)]
-pub struct Opening {
-    /// The two carriers, by number.
-    pub carriers: &'static [Carrier],
+#[derive(Clone, Copy)]
+pub struct Opening<'a> {
+    /// The numbers of the carriers that have a station.
+    pub numbers: &'a [u8],
+    /// The first of these carriers.
+    pub first: Carrier<'a>,
+    /// The second one. Others have no input.
+    pub second: Carrier<'a>,
+    /// The greatest version of the link that is served.
+    pub greatest: Version,
     /// The answers of the pacer.
     pub paces: &'static [Pace],
     /// The hold of the pacer's first answer.
     pub pacer: Hold,
-    /// The octets of an operator. If there are none, no operator connects.
-    pub operator: &'static [u8],
+    /// The steps of the console's port.
+    pub operator: &'a str,
+    /// The input of which steps name a part, and the number that `N` means in steps.
+    pub input: (&'a [u8], usize),
 }
 
 /// A carrier's station.
 pub type CarrierStation<'a> = Station<MeetingPort<'a>, Meeting<'a>>;
 
 /// The state that one term hands to the next.
-#[derive(Drop)]
-pub struct TermStage<'a> {
-    site: Site,
-    stations: Vec<CarrierStation<'a>>,
-    pacer: MeetingPacer<'a>,
-    console: ConsoleStation<MemoryPort>,
-}
-
-/// The same state, as a term hands it back if it is refused.
-type TermService<'a> = Service<MeetingPort<'a>, Meeting<'a>, MeetingPacer<'a>, MemoryPort>;
+pub type TermStage<'a> = Service<MeetingPort<'a>, Meeting<'a>, MeetingPacer<'a>, MemoryPort>;
 
 /// The result of a term.
 pub type TermOutcome<'a> = Term<CarrierStation<'a>, MeetingPacer<'a>, ConsoleStation<MemoryPort>>;
 
-/// Returns the counts of the steps that the three actors (two carriers and the ticker) have made: none yet.
-pub fn new_steps() -> [AtomicU64; 3] {
-    [AtomicU64::new(0), AtomicU64::new(0), AtomicU64::new(0)]
-}
-
 /// Returns the station of the carrier with this number.
-pub fn station_of<'a>(
+fn station_of<'a>(
     alloc: Global,
     counts: Counts<'a>,
     number: u8,
-    carrier: &Carrier,
+    carrier: &Carrier<'_>,
+    opening: &Opening<'_>,
 ) -> Result<CarrierStation<'a>, Fail> {
-    let port = port_of(alloc, carrier_steps(alloc, number, carrier)?)?;
-    let holds = (carrier.wait, carrier.gate);
-    station_with(counts, number, port, Version::V1, holds)
-}
-
-/// Returns the station of the carrier with this number and this port. It serves versions of the link up to `greatest`.
-/// The holds are those of the port's first silence and of the gate's first entry.
-pub fn station_with<'a>(
-    counts: Counts<'a>,
-    number: u8,
-    port: MemoryPort,
-    greatest: Version,
-    holds: (Hold, Hold),
-) -> Result<CarrierStation<'a>, Fail> {
+    let (input, round) = opening.input;
+    let port = port_of(alloc, input, carrier.steps, round)?;
+    let place = u32::from(number % 16);
     let actor = usize::from(number);
-    let (wait, gate) = holds;
-    let (port, who) = both(port, carrier_no(number))?;
-    let (port, lpcn) = both(port, lpcn_of(number))?;
     Ok(Station {
-        link: Link::new(who, lpcn, greatest),
+        link: Link::new(
+            CarrierNo::new(place),
+            Lpcn::new(place + 1),
+            opening.greatest,
+        ),
         port: MeetingPort {
             port,
-            meeting: Meeting::new(counts, actor, wait),
+            meeting: Meeting::new(counts, actor, carrier.wait),
         },
-        gate: Meeting::new(counts, actor, gate),
+        gate: Meeting::new(counts, actor, carrier.gate),
     })
 }
 
-/// Returns the number as a carrier's.
-fn carrier_no(number: u8) -> Result<CarrierNo, Fail> {
-    Ok(CarrierNo::try_new(u32::from(number)).ok_or("a carrier's number")?)
-}
-
-/// Returns the channel of the carrier with this number.
-fn lpcn_of(number: u8) -> Result<Lpcn, Fail> {
-    Ok(Lpcn::try_new(u32::from(number) + 1).ok_or("a channel")?)
-}
-
-/// Adds the station of the carrier with this number.
-fn add_station<'a>(
-    alloc: Global,
-    counts: Counts<'a>,
-    stations: &mut Vec<CarrierStation<'a>>,
-    number: u8,
-    carrier: &Carrier,
-) -> Result<(), Fail> {
-    push(stations, station_of(alloc, counts, number, carrier)?)?;
-    Ok(())
-}
-
-/// Adds the stations of these carriers.
+/// Adds the stations.
 fn add_stations<'a>(
     alloc: Global,
     counts: Counts<'a>,
     stations: &mut Vec<CarrierStation<'a>>,
-    carriers: &[Carrier],
+    opening: &Opening<'_>,
 ) -> Result<(), Fail> {
-    for (number, carrier) in [0, 1].into_iter().zip(carriers) {
-        add_station(alloc, counts, stations, number, carrier)?;
+    for (place, number) in opening.numbers.iter().enumerate() {
+        let carrier = match place {
+            0 => &opening.first,
+            1 => &opening.second,
+            _ => &NO_CARRIER,
+        };
+        let station = station_of(alloc, counts, *number, carrier, opening)?;
+        push(stations, station)?;
     }
     Ok(())
 }
 
-/// Adds stations of carriers with these numbers, a digit each, to which nobody connects.
-fn add_numbered<'a>(
+/// Returns the stage of the first term, with a site on which nothing is up.
+pub fn new_stage<'a>(
     alloc: Global,
     counts: Counts<'a>,
-    stations: &mut Vec<CarrierStation<'a>>,
-    numbers: &str,
-) -> Result<(), Fail> {
-    for digit in numbers.bytes() {
-        add_station(
-            alloc,
-            counts,
-            stations,
-            digit.wrapping_sub(b'0'),
-            &NO_CARRIER,
-        )?;
-    }
-    Ok(())
-}
-
-/// Returns the steps of a carrier's port. A connection arrives at the second call of `connect`. Its octets arrive after
-/// a wait, one frame with each read.
-fn carrier_steps(alloc: Global, number: u8, carrier: &Carrier) -> Result<Vec<Step>, AllocError> {
-    let mut steps = Vec::new(alloc);
-    let added = add_connections(alloc, &mut steps, number, carrier);
-    keep(added, steps)
-}
-
-/// Adds the steps of a carrier's connections.
-fn add_connections(
-    alloc: Global,
-    steps: &mut Vec<Step>,
-    number: u8,
-    carrier: &Carrier,
-) -> Result<(), AllocError> {
-    let hello = [0x01, 0x04, 0x01, number, 0x00, number.wrapping_add(1)];
-    for (polls, end) in carrier.connections {
-        add_beginning(alloc, steps, &hello)?;
-        for _ in 0..*polls {
-            push_feed(alloc, steps, &[0x03, 0x00])?;
-        }
-        push(steps, Step::Read(*end))?;
-    }
-    Ok(())
-}
-
-/// Adds the steps of a connection to its HELLO.
-fn add_beginning(alloc: Global, steps: &mut Vec<Step>, hello: &[u8]) -> Result<(), AllocError> {
-    push(steps, Step::Connect(Connect::NotYet))?;
-    push(steps, Step::Connect(Connect::Ready))?;
-    push(steps, Step::Read(Got::Block))?;
-    push(steps, Step::Wait(Waited::Again))?;
-    push_feed(alloc, steps, hello)
-}
-
-/// Adds the steps of the console's port.
-fn add_console_steps(
-    alloc: Global,
-    steps: &mut Vec<Step>,
-    operator: &[u8],
-) -> Result<(), AllocError> {
-    if !operator.is_empty() {
-        push(steps, Step::Connect(Connect::Ready))?;
-        push_feed(alloc, steps, operator)?;
-    }
-    Ok(())
-}
-
-/// Returns the console, and its port with these octets of an operator.
-pub fn console_of(alloc: Global, operator: &[u8]) -> Result<ConsoleStation<MemoryPort>, Fail> {
-    let mut steps = Vec::new(alloc);
-    let added = add_console_steps(alloc, &mut steps, operator);
-    let port = port_of(alloc, keep(added, steps)?)?;
-    Ok(ConsoleStation {
-        link: ConsoleLink::new(),
-        port,
-    })
-}
-
-/// Returns the stage of the first term with these stations and a site on which nothing is up.
-fn stage_of<'a>(
-    alloc: Global,
-    counts: Counts<'a>,
-    stations: Vec<CarrierStation<'a>>,
-    opening: &Opening,
+    opening: &Opening<'_>,
 ) -> Result<TermStage<'a>, Fail> {
-    let (stations, console) = both(stations, console_of(alloc, opening.operator))?;
-    stage_with(alloc, counts, stations, console, opening)
-}
-
-/// Returns the stage of the first term with these stations, this console, and a site on which nothing is up.
-fn stage_with<'a>(
-    alloc: Global,
-    counts: Counts<'a>,
-    stations: Vec<CarrierStation<'a>>,
-    console: ConsoleStation<MemoryPort>,
-    opening: &Opening,
-) -> Result<TermStage<'a>, Fail> {
-    let ((stations, console), site) = both((stations, console), quiet_site(alloc))?;
-    Ok(TermStage {
+    let mut stations = Vec::new(alloc);
+    let added = add_stations(alloc, counts, &mut stations, opening);
+    let stations = keep(added, stations)?;
+    let (input, round) = opening.input;
+    let (stations, port) = both(stations, port_of(alloc, input, opening.operator, round))?;
+    let ((stations, port), site) = both((stations, port), quiet_site(alloc))?;
+    Ok(Service {
         site,
         stations,
         pacer: MeetingPacer {
             paces: opening.paces,
             meeting: Meeting::new(counts, 2, opening.pacer),
         },
-        console,
+        console: ConsoleStation {
+            link: ConsoleLink::new(),
+            port,
+        },
+        spare: SpareLists::new(alloc),
     })
 }
 
 /// Returns the stage of the term after this one.
-pub fn next_stage<'a>(outcome: TermOutcome<'a>) -> TermStage<'a> {
+pub fn next_stage<'a>(alloc: Global, outcome: TermOutcome<'a>) -> TermStage<'a> {
     let Term {
         report,
         stations,
@@ -264,150 +149,54 @@ pub fn next_stage<'a>(outcome: TermOutcome<'a>) -> TermStage<'a> {
     } = report;
     drop(journal);
     drop(views);
-    TermStage {
+    Service {
         site,
         stations,
         pacer,
         console,
+        spare: SpareLists::new(alloc),
     }
 }
 
-/// Returns the service of a stage.
-fn service_of<'a>(stage: TermStage<'a>) -> TermService<'a> {
-    let spare = SpareLists::new(*stage.stations.allocator());
-    Service {
-        site: stage.site,
-        stations: stage.stations,
-        pacer: stage.pacer,
-        console: stage.console,
+/// Runs a term.
+pub fn run<'a, R: Wait + Threads + Sync>(
+    rt: &R,
+    alloc: Global,
+    stage: TermStage<'a>,
+    limit: usize,
+) -> Result<TermOutcome<'a>, TermFault> {
+    let Service {
+        site,
+        stations,
+        pacer,
+        console,
         spare,
+    } = stage;
+    drop(spare);
+    run_term(rt, alloc, site, limit, stations, pacer, console)
+}
+
+/// Returns the port of an actor. The ticker has none.
+pub fn port_of_actor<'b>(
+    stations: &'b [CarrierStation<'_>],
+    console: &'b ConsoleStation<MemoryPort>,
+    actor: usize,
+) -> Option<&'b MemoryPort> {
+    if actor == CONSOLE {
+        Some(&console.port)
+    } else {
+        Some(&stations.get(actor)?.port.port)
     }
 }
 
-/// Returns the stage of a service.
-fn stage_of_service<'a>(service: TermService<'a>) -> TermStage<'a> {
-    TermStage {
-        site: service.site,
-        stations: service.stations,
-        pacer: service.pacer,
-        console: service.console,
-    }
-}
-
-/// Returns all octets that the port of an actor has taken. The ticker has no port.
+/// Returns all octets that the port of an actor has taken.
 pub fn octets_taken<'b>(
     stations: &'b [CarrierStation<'_>],
     console: &'b ConsoleStation<MemoryPort>,
     actor: usize,
 ) -> &'b [u8] {
-    match stations.get(actor) {
-        Some(station) => station.port.port.taken(),
-        None if actor == CONSOLE => console.port.taken(),
+    match port_of_actor(stations, console, actor) {
+        Some(port) => port.taken(),
         None => &[],
-    }
-}
-
-impl<'a> TermStage<'a> {
-    /// Returns the stage of the first term, with a site on which nothing is up.
-    pub fn new(
-        rt: &'a HostRuntime,
-        steps: &'a [AtomicU64],
-        opening: &Opening,
-    ) -> Result<Self, Fail> {
-        let mut stations = Vec::new(rt.alloc());
-        let added = add_stations(
-            rt.alloc(),
-            Some((rt, steps)),
-            &mut stations,
-            opening.carriers,
-        );
-        stage_of(
-            rt.alloc(),
-            Some((rt, steps)),
-            keep(added, stations)?,
-            opening,
-        )
-    }
-
-    /// Returns the stage of a term with these ports of carrier 0 and of the console. The carrier's link serves versions
-    /// up to `greatest`. Nobody connects to carrier 1, and nothing is held.
-    pub fn of_ports(
-        alloc: Global,
-        ports: (MemoryPort, MemoryPort),
-        greatest: Version,
-    ) -> Result<Self, Fail> {
-        let (of_carrier, of_console) = ports;
-        let first = station_with(None, 0, of_carrier, greatest, (Hold::Free, Hold::Free));
-        let (of_console, first) = both(of_console, first)?;
-        let (ends, second) = both((of_console, first), station_of(alloc, None, 1, &NO_CARRIER))?;
-        let (port, first) = ends;
-        let (port, stations) = both(port, two(alloc, first, second))?;
-        let console = ConsoleStation {
-            link: ConsoleLink::new(),
-            port,
-        };
-        stage_with(alloc, None, stations, console, &NOTHING_COMES)
-    }
-
-    /// Returns a stage without any input, with stations of carriers of these numbers, a digit each.
-    pub fn of_numbers(
-        rt: &'a HostRuntime,
-        steps: &'a [AtomicU64],
-        numbers: &str,
-    ) -> Result<Self, Fail> {
-        let mut stations = Vec::new(rt.alloc());
-        let added = add_numbered(rt.alloc(), Some((rt, steps)), &mut stations, numbers);
-        stage_of(
-            rt.alloc(),
-            Some((rt, steps)),
-            keep(added, stations)?,
-            &NOTHING_COMES,
-        )
-    }
-
-    /// Runs a term.
-    pub fn run<R: Wait + Threads + Sync>(
-        self,
-        rt: &R,
-        alloc: Global,
-        limit: usize,
-    ) -> Result<TermOutcome<'a>, TermFault> {
-        run_term(
-            rt,
-            alloc,
-            self.site,
-            limit,
-            self.stations,
-            self.pacer,
-            self.console,
-        )
-    }
-
-    /// Runs a term that should be refused before a thread is started. Returns the fault, and the stage that is handed
-    /// back. `None` if the term was run, or if nothing is handed back.
-    pub fn try_refused<R: Wait + Threads + Sync>(
-        self,
-        rt: &R,
-        alloc: Global,
-        limit: usize,
-    ) -> Option<(TermFault, TermStage<'a>)> {
-        let refused = try_term(rt, alloc, limit, service_of(self)).err()?;
-        let Refused { fault, left, ended } = refused;
-        drop(ended);
-        let (fault, service) = Some(fault).zip(left)?;
-        Some((fault, stage_of_service(service)))
-    }
-
-    /// Returns all octets that carrier 0's port has taken.
-    pub fn taken_by_first(&self) -> &[u8] {
-        octets_taken(self.stations.as_slice(), &self.console, 0)
-    }
-
-    /// Returns whether carrier 0's link is live.
-    pub fn is_first_live(&self) -> bool {
-        match self.stations.first() {
-            Some(station) => station.link.live(),
-            None => false,
-        }
     }
 }

@@ -1,4 +1,4 @@
-use Rattle.test_trials.proofs.shared.outcome_of.Given as goal
+use Rattle.test_trials.proofs.desks.outcome_of.Given as goal
 
 abbrev pub ghosts-open_and_close-L-DeskLedger : goal.ghosts-open_and_close-L-DeskLedger
 ghosts-open_and_close-L-DeskLedger g a = record { desk = record { site = a.site; limit = a.limit; actors = a.actors } }

@@ -1,4 +1,4 @@
-use Rattle.test_trials.proofs.shared.two_at_once.Given as goal
+use Rattle.test_trials.proofs.desks.two_at_once.Given as goal
 
 abbrev pub ghosts-at_once-L-DeskLedger : goal.ghosts-at_once-L-DeskLedger
 ghosts-at_once-L-DeskLedger g a = record { desk = record { site = a.site; limit = a.limit; actors = 2 } }

@@ -1,12 +1,28 @@
-//! The steps of a port: how it answers its calls, in the words of `cases/README.md`.
+//! The steps of a port: how it answers its calls, in the words of `cases/README.md`. `not yet` is a call of `connect` to
+//! which no connection has come.
 
-use super::peers::number;
-use crate::kept::push;
-use dmr_wire::{Connect, Got, Put, Step, Waited};
+use crate::kept::{known, push, without_rest};
+use dmr_wire::{Connect, Got, MemoryPort, Put, Step, Waited};
 use std::alloc::{AllocError, Global};
+use std::test::Fail;
 
-/// Adds the steps that these words mean, with `input` as the peer's input. Returns whether the words are known.
-pub fn add_steps(
+/// The room of a port's record, in answers and in octets.
+const ROOM: usize = 4096;
+
+/// Returns the port with the steps that these words mean, with `input` as the peer's input.
+pub fn port_of(alloc: Global, input: &[u8], words: &str, round: usize) -> Result<MemoryPort, Fail> {
+    let mut steps = Vec::new(alloc);
+    let added = if words.is_empty() {
+        Ok(true)
+    } else {
+        add_steps(alloc, &mut steps, input, words, round)
+    };
+    let made = MemoryPort::new(alloc, known(added, steps)?, ROOM);
+    Ok(without_rest(made)?)
+}
+
+/// Adds the steps that these words mean. Returns whether the words are known.
+fn add_steps(
     alloc: Global,
     steps: &mut Vec<Step>,
     input: &[u8],
@@ -57,6 +73,7 @@ fn step_of(
 fn answer_of(words: &str, round: usize) -> Option<Step> {
     match words {
         "connect" => Some(Step::Connect(Connect::Ready)),
+        "not yet" => Some(Step::Connect(Connect::NotYet)),
         "read end" => Some(Step::Read(Got::End)),
         "read interrupted" => Some(Step::Read(Got::Interrupted)),
         "read block" => Some(Step::Read(Got::Block)),
@@ -100,4 +117,13 @@ fn first_octet(digits: &str, round: usize) -> Option<(u8, &str)> {
         u8::from_str_radix(digits.get(0..2)?, 16).ok()?
     };
     Some((octet, rest))
+}
+
+/// Returns the number that a word means. `N` is the number of the round.
+pub fn number(word: &str, round: usize) -> Option<usize> {
+    if word == "N" {
+        Some(round)
+    } else {
+        word.parse::<usize>().ok()
+    }
 }

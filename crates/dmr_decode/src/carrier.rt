@@ -2,7 +2,6 @@
 
 use crate::words_of_bursts::show_word;
 use dmr_frames::{Cutter, FrameIn, Step, Version};
-use std::alloc::Global;
 use std::io;
 use std::io::Write;
 
@@ -29,7 +28,7 @@ impl CarrierReader {
 
     /// Prints the frames that octets complete, each with the number of its first octet, and the first fault with the
     /// number of its octet. The numbers count from 0 over the whole connection.
-    pub fn show<W: Write>(&mut self, alloc: Global, octets: &[u8], out: &mut W) -> io::Result<()> {
+    pub fn show<W: Write>(&mut self, octets: &[u8], out: &mut W) -> io::Result<()> {
         for octet in octets {
             let step = self.cutter.feed_byte(*octet);
             let place = self.came;
@@ -39,7 +38,7 @@ impl CarrierReader {
                 Step::Frame(frame) => {
                     let begins = self.begins;
                     self.begins = self.came;
-                    show_frame(alloc, begins, &frame, out)?;
+                    show_frame(begins, &frame, out)?;
                 }
                 Step::Fault(cause) => {
                     if !self.faulty {
@@ -67,24 +66,19 @@ impl CarrierReader {
 }
 
 /// Prints a frame, and the meaning of its word.
-fn show_frame<W: Write>(
-    alloc: Global,
-    begins: usize,
-    frame: &FrameIn,
-    out: &mut W,
-) -> io::Result<()> {
+fn show_frame<W: Write>(begins: usize, frame: &FrameIn, out: &mut W) -> io::Result<()> {
     writeln!(out, "{begins:>4}  {frame}")?;
-    show_word_in(alloc, frame, out)
+    show_word_in(frame, out)
 }
 
 /// Prints the meaning of a frame's word, if it has one.
-pub fn show_word_in<W: Write>(alloc: Global, frame: &FrameIn, out: &mut W) -> io::Result<()> {
+pub fn show_word_in<W: Write>(frame: &FrameIn, out: &mut W) -> io::Result<()> {
     match frame {
         FrameIn::Rx {
             number: _,
             slot: _,
             word,
-        } => show_word(alloc, word, out),
+        } => show_word(word, out),
         _ => Ok(()),
     }
 }

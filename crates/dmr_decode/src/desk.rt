@@ -20,6 +20,7 @@ const MOST_TAKEN: usize = 4;
 /// A site, and the events that it answered since [`SiteDesk::forget`], with the answers.
 #[derive(Drop)]
 pub struct SiteDesk {
+    alloc: Global,
     site: Site,
     taken: Vec<Deposit>,
 }
@@ -43,7 +44,7 @@ impl SiteDesk {
     {
         let taken = Vec::with_capacity(alloc, MOST_TAKEN)?;
         let site = Site::new(alloc, *plan)?;
-        Ok(SiteDesk { site, taken })
+        Ok(SiteDesk { alloc, site, taken })
     }
 
     /// Lets the site answer an event, and keeps both. `acts` becomes the answer. `Err`: too many are kept, and nothing
@@ -93,6 +94,15 @@ impl SiteDesk {
         self.taken.clear();
     }
 
+    /// Lets the site's clock tick. Returns whether the site has acts for it. If too many events are kept, nothing
+    /// happens.
+    pub fn tick(&mut self) -> bool {
+        match self.deposit(Event::Tick) {
+            Ok(acts) => !acts.list.is_empty(),
+            Err(_) => false,
+        }
+    }
+
     /// Asks the site for the state of a slot, as an operator does. `None` if the plan does not have the slot.
     pub fn state_of(&mut self, slot: &Slot) -> Option<State> {
         let acts = self.site.apply(Event::Say(Command::Slots));
@@ -103,11 +113,11 @@ impl SiteDesk {
     }
 
     /// Returns the site's answer to an event without applying the event. `Err`: out of memory.
-    pub fn answer_to(&self, alloc: Global, event: &Event) -> Result<Acts, OutOfMemory>
+    pub fn answer_to(&self, event: &Event) -> Result<Acts, OutOfMemory>
         ensures { IfOk result
             (λ acts. acts.list ≡ acts_of self.now.site.plan self.now.site.facts event.now) }
     {
-        let mut copy = self.site.try_clone(alloc)?;
+        let mut copy = self.site.try_clone(self.alloc)?;
         let acts = copy.apply(*event);
         drop(copy);
         Ok(acts)

@@ -2,6 +2,7 @@
 
 use crate::carrier::show_word_in;
 use crate::desk::SiteDesk;
+use crate::journal::EntryPrinter;
 use crate::octet_wire::OctetWire;
 use crate::rows::{Form, show_acts};
 use crate::verdict::{Verdict, verdict_of_end, verdict_of_event};
@@ -72,7 +73,6 @@ impl JudgedCarrier {
     /// If the connection ends, it prints how many octets follow.
     pub fn receive<W: Write>(
         &mut self,
-        alloc: Global,
         octets: &[u8],
         desk: &mut SiteDesk,
         out: &mut W,
@@ -81,7 +81,24 @@ impl JudgedCarrier {
             if !self.is_live() {
                 return self.show_unread(octets.len().saturating_sub(index), out);
             }
-            self.receive_octet(alloc, *octet, desk, out)?;
+            self.receive_octet(*octet, desk, out)?;
+        }
+        Ok(())
+    }
+
+    /// Processes octets up to the end of the connection, and prints the entries that they add to the journal.
+    pub fn journal<W: Write>(
+        &mut self,
+        octets: &[u8],
+        desk: &mut SiteDesk,
+        entries: &mut EntryPrinter,
+        out: &mut W,
+    ) -> io::Result<()> {
+        for octet in octets {
+            if self.is_live() {
+                self.serve_octet(*octet, desk);
+                entries.show_taken(desk, out)?;
+            }
         }
         Ok(())
     }
@@ -96,7 +113,7 @@ impl JudgedCarrier {
     }
 
     /// Lets the link process an octet. The desk then has the event that the octet completed, if it completed one.
-    pub fn serve_octet(&mut self, octet: u8, desk: &mut SiteDesk) {
+    fn serve_octet(&mut self, octet: u8, desk: &mut SiteDesk) {
         desk.forget();
         self.wire.offer(octet);
         let _ = self.link.serve(&mut self.wire, desk, &mut OpenGate);
@@ -105,7 +122,6 @@ impl JudgedCarrier {
     /// Processes an octet. Prints the frame or the fault that it completes, with the verdict.
     fn receive_octet<W: Write>(
         &mut self,
-        alloc: Global,
         octet: u8,
         desk: &mut SiteDesk,
         out: &mut W,
@@ -116,9 +132,9 @@ impl JudgedCarrier {
         self.came = place.saturating_add(1);
         match step {
             Step::Need => Ok(()),
-            Step::Frame(frame) => self.show_frame(alloc, &frame, desk, out),
+            Step::Frame(frame) => self.show_frame(&frame, desk, out),
             Step::Fault(cause) => {
-                let verdict = self.verdict(alloc, desk)?;
+                let verdict = self.verdict(desk)?;
                 writeln!(
                     out,
                     "{place:>4}  fault at octet {octet:02X}: {cause} -> {verdict}"
@@ -130,26 +146,25 @@ impl JudgedCarrier {
     /// Prints a frame with the verdict, the meaning of its word, and the acts of the site.
     fn show_frame<W: Write>(
         &mut self,
-        alloc: Global,
         frame: &FrameIn,
         desk: &mut SiteDesk,
         out: &mut W,
     ) -> io::Result<()> {
         let begins = self.begins;
         self.begins = self.came;
-        let verdict = self.verdict(alloc, desk)?;
+        let verdict = self.verdict(desk)?;
         writeln!(out, "{begins:>4}  {frame} -> {verdict}")?;
-        show_word_in(alloc, frame, out)?;
+        show_word_in(frame, out)?;
         show_newest(desk, out)
     }
 
     /// Returns the verdict on the frame, or the fault, that the newest octet completed.
-    fn verdict(&self, alloc: Global, desk: &mut SiteDesk) -> io::Result<Verdict> {
+    fn verdict(&self, desk: &mut SiteDesk) -> io::Result<Verdict> {
         if !self.is_live() {
             return Ok(verdict_of_end(self.link.closing(), self.whose));
         }
         let newest = desk.newest();
-        verdict_of_event(alloc, desk, &newest).map_err(memory_error)
+        verdict_of_event(desk, &newest).map_err(memory_error)
     }
 
     /// Prints the number of octets of an incomplete frame, if the connection is open.

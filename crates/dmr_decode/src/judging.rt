@@ -1,67 +1,56 @@
 //! The tasks of the program with the site of a site file: they show octets with what the site's controller makes of
 //! them, and print its journal.
 
+use crate::fault::TaskFault;
 use crate::journal::EntryPrinter;
-use crate::judge::Judge;
+use crate::judge::{Judge, Shown};
 use crate::printable::Printable;
 use crate::rows::Form;
-use crate::tasks::{TaskFault, octets_of};
+use crate::tasks::{octets_of, show_line};
 use dmr_frames::{Cutter, FrameIn, Step};
 use dmr_link::greatest_version;
-use dmr_pdu::{CarrierNo, OutOfMemory};
+use dmr_pdu::CarrierNo;
 use dmr_plan::Plan;
 use dmr_replay::{ReplayFault, ScriptFault, ScriptInput, read_script};
-use std::alloc::{AllocError, Global};
+use std::alloc::Global;
 use std::io;
 use std::io::Write;
-
-/// What is printed of a script.
-#[derive(Drop)]
-enum Shown {
-    /// Each line, with what the controller makes of it.
-    Verdicts,
-    /// The entries of the site's journal.
-    Entries(EntryPrinter),
-}
 
 /// Runs the task with this name over a text, with the site of a plan, and writes its output.
 pub fn judge<'a, W: Write>(
     alloc: Global,
     plan: &Plan,
-    task: &'a str,
-    text: &'a str,
-    out: &mut W,
-) -> Result<(), TaskFault<'a>> {
-    match task {
-        "carrier" => {
-            let octets = octets_of(alloc, text)?;
-            judge_octets(alloc, plan, octets.as_slice(), out)
-        }
-        "script" => judge_script(alloc, plan, &mut Shown::Verdicts, text, out),
-        "journal" => judge_journal(alloc, plan, Form::Words, text, out),
-        "journal --fields" => judge_journal(alloc, plan, Form::Fields, text, out),
-        _ => Err(TaskFault::NoSuchTask(task)),
-    }
-}
-
-/// Prints the journal of the site of a plan for a script.
-fn judge_journal<'a, W: Write>(
-    alloc: Global,
-    plan: &Plan,
-    form: Form,
+    task: &str,
     text: &str,
     out: &mut W,
 ) -> Result<(), TaskFault<'a>> {
-    let mut shown = Shown::Entries(EntryPrinter::new(alloc, form));
-    judge_script(alloc, plan, &mut shown, text, out)
+    let Ok(mut judge) = Judge::new(alloc, plan) else {
+        return Err(TaskFault::Memory);
+    };
+    let done = judge_text(alloc, plan, &mut judge, task, text, out);
+    drop(judge);
+    done
 }
 
-/// Makes the judge of a plan's site.
-fn judge_of<'a>(alloc: Global, plan: &Plan) -> Result<Judge, TaskFault<'a>> {
-    match Judge::new(alloc, plan) {
-        Ok(judge) => Ok(judge),
-        Err(OutOfMemory) => Err(TaskFault::Memory(AllocError)),
-    }
+/// Runs the task with this name over a text, with a judge that has no carriers yet.
+fn judge_text<'a, W: Write>(
+    alloc: Global,
+    plan: &Plan,
+    judge: &mut Judge,
+    task: &str,
+    text: &str,
+    out: &mut W,
+) -> Result<(), TaskFault<'a>> {
+    judge.add_carriers(alloc, plan)?;
+    let form = match task {
+        "carrier" => return judge_octets(alloc, plan, judge, text, out),
+        "script" => return judge_lines(alloc, judge, &mut Shown::Verdicts, text, out),
+        "journal" => Form::Words,
+        "journal --fields" => Form::Fields,
+        _ => return Err(TaskFault::NoSuchTask),
+    };
+    let mut shown = Shown::Entries(EntryPrinter::new(form));
+    judge_lines(alloc, judge, &mut shown, text, out)
 }
 
 /// Returns the carrier on whose port octets are judged: that which the HELLO names, if the plan has it, else the
@@ -87,42 +76,25 @@ fn carrier_of(plan: &Plan, octets: &[u8]) -> CarrierNo {
 fn judge_octets<'a, W: Write>(
     alloc: Global,
     plan: &Plan,
-    octets: &[u8],
+    judge: &mut Judge,
+    text: &str,
     out: &mut W,
 ) -> Result<(), TaskFault<'a>> {
-    let carrier = carrier_of(plan, octets);
-    let mut judge = judge_of(alloc, plan)?;
-    let shown = show_connection(alloc, &mut judge, carrier, octets, out);
-    drop(judge);
-    Ok(shown?)
+    let octets = octets_of(alloc, text)?;
+    let carrier = carrier_of(plan, octets.as_slice());
+    Ok(show_connection(judge, carrier, octets.as_slice(), out)?)
 }
 
 /// Shows a connection of a carrier on which these octets come.
 fn show_connection<W: Write>(
-    alloc: Global,
     judge: &mut Judge,
     carrier: CarrierNo,
     octets: &[u8],
     out: &mut W,
 ) -> io::Result<()> {
     write!(out, "port of carrier {carrier} -> ")?;
-    judge.open(carrier, out)?;
-    judge.receive(alloc, carrier, octets, out)?;
-    judge.show_rest(carrier, out)
-}
-
-/// Shows the lines of a script, up to the first that is not a line of a script.
-fn judge_script<'a, W: Write>(
-    alloc: Global,
-    plan: &Plan,
-    shown: &mut Shown,
-    text: &str,
-    out: &mut W,
-) -> Result<(), TaskFault<'a>> {
-    let mut judge = judge_of(alloc, plan)?;
-    let done = judge_lines(alloc, &mut judge, shown, text, out);
-    drop(judge);
-    done
+    judge.open(carrier, &mut Shown::Verdicts, out)?;
+    judge.receive(carrier, octets, out)
 }
 
 /// Shows the lines of a script, up to the first that is not a line of a script.
@@ -174,7 +146,7 @@ fn judge_line<'a, W: Write>(
             }
             Ok(false)
         }
-        Err(ScriptFault::OutOfMemory) => Err(TaskFault::Memory(AllocError)),
+        Err(ScriptFault::OutOfMemory) => Err(TaskFault::Memory),
     }
 }
 
@@ -188,9 +160,8 @@ fn judge_given<W: Write>(
     out: &mut W,
 ) -> io::Result<()> {
     match (shown, given) {
-        (Shown::Verdicts, [input]) => judge.show_input(alloc, line, input, out),
-        (Shown::Verdicts, _) => writeln!(out, "{}", Printable(line)),
-        (Shown::Entries(entries), [input]) => judge.show_entries(input, entries, out),
+        (shown, [input]) => judge.show_input(alloc, line, input, shown, out),
+        (Shown::Verdicts, _) => show_line(line, out),
         (Shown::Entries(_), _) => Ok(()),
     }
 }

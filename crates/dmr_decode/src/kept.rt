@@ -1,5 +1,5 @@
-//! Functions that are generic in what they keep. A function that owns a judge, its carriers or a fault, and can end
-//! while it does, is expensive to prove; a call of one of these is cheap.
+//! A function that is generic in what it keeps. A function that owns a carrier, and can end while it does, is expensive
+//! to prove; a call of this one is cheap.
 
 use std::alloc::AllocError;
 
@@ -7,23 +7,4 @@ use std::alloc::AllocError;
 pub fn push<T: Drop>(list: &mut Vec<T>, item: T) -> Result<(), AllocError> {
     list.push(item)?;
     Ok(())
-}
-
-/// Returns both values if the second one was made, and otherwise the fault.
-pub fn both<A: Drop, B, E>(first: A, second: Result<B, E>) -> Result<(A, B), E> {
-    match second {
-        Ok(second) => Ok((first, second)),
-        Err(fault) => Err(fault),
-    }
-}
-
-/// Returns the first fault of two actions, of which both were done.
-pub fn first_fault<E: Drop>(first: Result<(), E>, second: Result<(), E>) -> Result<(), E> {
-    match first {
-        Ok(()) => second,
-        Err(fault) => {
-            drop(second);
-            Err(fault)
-        }
-    }
 }

@@ -17,10 +17,12 @@
 //! and which frame would end a connection. No rule is written here again: `judged_carrier` and `judge` have the links
 //! of `dmr_link`, which hand their events to the site of `dmr_core` at a `desk`. `verdict` names the outcome,
 //! `rows` has the texts of the site's events and answers, `journal` prints its entries, and `judging` has the tasks.
+//! `fault` has the messages.
 #![tactic(auto)]
 
 mod carrier;
 mod desk;
+mod fault;
 mod journal;
 mod judge;
 mod judged_carrier;
@@ -37,9 +39,9 @@ mod words_of_bursts;
 
 ghost use Rattle.std.specs.Prelude.{◌≤◌, IfOk};
 
+use crate::fault::TaskFault;
 use crate::judging::judge;
-use crate::kept::first_fault;
-use crate::tasks::{TaskFault, run};
+use crate::tasks::run;
 use dmr_plan::Plan;
 use dmr_replay::{MEMORY, ReplayFault, plan_of};
 use std::alloc::Global;
@@ -182,33 +184,23 @@ fn status_of(fault: &TaskFault<'_>, has_site: bool) -> u8
     ensures { result ≤ 4 }
 {
     match fault {
-        TaskFault::NoSuchTask(_) => WORDS,
+        TaskFault::NoSuchTask => WORDS,
         TaskFault::Replay(fault) => fault.status(),
-        TaskFault::Memory(_) if has_site => MEMORY,
-        TaskFault::Io(error) if has_site && error.kind() == io::ErrorKind::OutOfMemory => MEMORY,
+        TaskFault::Memory | TaskFault::OutOfMemory if has_site => MEMORY,
         _ => FAULT,
     }
 }
 
-/// Writes why a task ended: its fault, or the help if there is no such task. A fault of standard error is ignored.
-fn write_fault<R: Eprint>(rt: &R, fault: &TaskFault<'_>) {
-    let _ = match fault {
-        TaskFault::NoSuchTask(_) => rt.eprint(HELP),
-        TaskFault::Io(error) if error.kind() == io::ErrorKind::OutOfMemory => {
-            eprintln!(rt; "dmr_decode: out of memory")
-        }
-        fault => eprintln!(rt; "dmr_decode: {fault}"),
-    };
-}
-
-/// Writes why a task ended, and returns the exit status.
+/// Writes why a task ended: its fault, or the help if there is no such task. Returns the exit status. A fault of standard
+/// error is ignored.
 fn report<R: Eprint>(rt: &R, fault: TaskFault<'_>, has_site: bool) -> u8
     ensures { result ≤ 4 }
 {
-    write_fault(rt, &fault);
-    let status = status_of(&fault, has_site);
-    drop(fault);
-    status
+    let _ = match fault {
+        TaskFault::NoSuchTask => rt.eprint(HELP),
+        fault => eprintln!(rt; "dmr_decode: {fault}"),
+    };
+    status_of(&fault, has_site)
 }
 
 /// Runs a task over its input, with the site of a plan if one is given, and writes all of its output. Returns the first
@@ -221,11 +213,9 @@ fn write_task<'a, W: Write>(
     out: &mut W,
 ) -> Result<(), TaskFault<'a>> {
     let done = run_task(alloc, task, plan, text, out);
-    let written = match out.flush() {
-        Ok(()) => Ok(()),
-        Err(error) => Err(TaskFault::Io(error)),
-    };
-    first_fault(done, written)
+    let written = out.flush();
+    done?;
+    Ok(written?)
 }
 
 /// Does a task over its input, with the site of a plan if one is given. Prints its output, and returns the exit status.
@@ -273,7 +263,7 @@ fn print_help<R: Print + Eprint>(rt: &R) -> u8
 {
     match rt.print(HELP) {
         Ok(()) => 0,
-        Err(error) => report(rt, TaskFault::Io(error), false),
+        Err(error) => report(rt, TaskFault::from(error), false),
     }
 }
 
@@ -284,7 +274,7 @@ fn run_program<R: AllocGlobal + Env + Input + Print + Eprint + Files>(rt: &R) ->
 {
     let words = env::args(rt)?.skip(1).collect::<Vec<String>>(rt.alloc())?;
     match parse_words(words.as_slice()) {
-        None => Ok(report(rt, TaskFault::NoSuchTask(""), false)),
+        None => Ok(report(rt, TaskFault::NoSuchTask, false)),
         Some(words) if words.task == "--help" => Ok(print_help(rt)),
         Some(words) => do_words(rt, words),
     }

@@ -1,128 +1,115 @@
 //! A PDU in words, as it is printed: its name, and `name=value` for each field. A missing field is 0, but `lpcn` must
 //! be there. `OTHER` has ten octets in digits.
 
-use crate::printable::Printable;
+use crate::fault::TaskFault;
 use dmr_pdu::{Kind, Lpcn, Pdu, Reason, layouts};
-use thiserror::Error;
 
-/// The fault of words that are not a PDU.
-#[derive(Clone, Copy, Debug, Error)]
-pub enum WordFault<'a> {
-    /// There are no words.
-    #[error("a PDU begins with its name")]
-    NoName,
-    /// No PDU has this name.
-    #[error("no PDU is called {0}")]
-    NoSuchPdu(Printable<'a>),
-    /// The PDU has no field of the name before the `=`, or there is no `=`.
-    #[error("the PDU has no such field: {0}")]
-    NoSuchField(Printable<'a>),
-    /// The value of this field is not a number or the name of a value, is out of its range, or is `lpcn` and missing.
-    /// Of `OTHER`: its word is not ten octets.
-    #[error("no value, or out of range: {0}")]
-    BadValue(&'a str),
-}
-
-/// What the text of a field's value may be.
-#[derive(Clone, Copy)]
-enum Form {
-    /// A number.
-    Number,
-    /// The number of a channel, which has to be given.
-    Channel,
-    /// The name or the number of a service kind.
-    Kind,
-    /// The name or the number of a reason.
-    Reason,
-}
-
-/// A row of a layout that has a field.
-#[derive(Clone, Copy)]
-struct Row {
-    /// The field.
-    name: &'static str,
-    /// The number that its value is below.
-    bound: u32,
-    /// How many bits are after it.
-    after: u32,
-    /// What its text may be.
-    form: Form,
-}
-
-/// The form of a field's value, by its type.
-macro_rules! form_of {
-    (Lpcn) => {
-        Form::Channel
-    };
-    (Kind) => {
-        Form::Kind
-    };
-    (Reason) => {
-        Form::Reason
-    };
-    ($type:ident) => {
-        Form::Number
+/// The lines of [`FIELDS`], by the rows of the layouts.
+macro_rules! lines_of {
+    (; $($variant:ident = $opcode:literal, $called:literal { $($first:literal, $width:literal $(=> $field:ident: $type:ident)?;)* })*) => {
+        concat!($($($($called, " ", $opcode, " ", stringify!($field), " ", $first, " ", $width, " ", stringify!($type), "\n",)?)*)*)
     };
 }
 
-/// The PDU of a name, with the fields in the words after it, by the rows of the layout with that name.
-macro_rules! pdu_in {
-    (($name:expr, $words:expr); $($variant:ident = $opcode:literal, $called:literal { $($first:literal, $width:literal $(=> $field:ident: $type:ident)?;)* })*) => {
-        match $name {
-            $($called => pdu_of_rows($opcode, &[$($(Row { name: stringify!($field), bound: 1 << $width, after: 80 - $first - $width, form: form_of!($type) },)?)*], $words),)*
-            "OTHER" => other($words),
-            _ => Err(WordFault::NoSuchPdu(Printable($name))),
-        }
-    };
+/// The fields of all PDUs, each on a line: the name of its PDU, the first octet of that PDU, its own name, its first
+/// bit, its width in bits and its type.
+const FIELDS: &str = layouts!(lines_of,);
+
+/// Returns the word of a line at a place, or an empty text if the line has fewer words.
+fn word_at(line: &str, place: usize) -> &str {
+    line.split(' ').nth(place).unwrap_or("")
 }
 
-/// Returns the PDU that these words mean.
-pub fn pdu_of<'a>(words: &[&'a str]) -> Result<Pdu, WordFault<'a>> {
-    let [name, fields @ ..] = words else {
-        return Err(WordFault::NoName);
-    };
-    layouts!(pdu_in, (*name, fields))
+/// Returns the number at a place of a line, or 0 if there is none.
+fn number_at(line: &str, place: usize) -> u32 {
+    word_at(line, place).parse::<u32>().unwrap_or(0)
 }
 
-/// Returns the PDU of a layout's opcode and rows, with the values in these words.
-fn pdu_of_rows<'a>(opcode: u8, rows: &[Row], words: &[&'a str]) -> Result<Pdu, WordFault<'a>> {
-    for word in words {
-        let name = word.split_once('=').map(|pair| pair.0);
-        if !rows.iter().any(|row| name == Some(row.name)) {
-            return Err(WordFault::NoSuchField(Printable(*word)));
+/// Returns whether a line has a field of the PDU with this name.
+fn is_of(line: &str, pdu: &str) -> bool {
+    word_at(line, 0) == pdu
+}
+
+/// Returns the PDU that the words of a text mean. The error is why they mean none.
+pub fn pdu_of<'a>(text: &'a str) -> Result<Pdu, TaskFault<'a>> {
+    let Some(name) = text.split_whitespace().next() else {
+        return Err(TaskFault::NoName);
+    };
+    if name == "OTHER" {
+        return pdu_of_digits(text);
+    }
+    let Some(opcode) = opcode_of(name) else {
+        return Err(TaskFault::NoSuchPdu(name));
+    };
+    for word in text.split_whitespace().skip(1) {
+        if !has_field(name, word) {
+            return Err(TaskFault::NoSuchField(word));
         }
     }
+    pdu_of_fields(name, opcode, text)
+}
+
+/// Returns the first octet of the PDU with this name.
+fn opcode_of(name: &str) -> Option<u8> {
+    for line in FIELDS.lines() {
+        if is_of(line, name) {
+            return u8::try_from(number_at(line, 1)).ok();
+        }
+    }
+    None
+}
+
+/// Returns whether a word is `name=value` for a field of a PDU.
+fn has_field(pdu: &str, word: &str) -> bool {
+    let Some((name, _)) = word.split_once('=') else {
+        return false;
+    };
+    for line in FIELDS.lines() {
+        if is_of(line, pdu) && word_at(line, 2) == name {
+            return true;
+        }
+    }
+    false
+}
+
+/// Returns the PDU with a name and a first octet, and with the values that are in a text.
+fn pdu_of_fields<'a>(name: &str, opcode: u8, text: &str) -> Result<Pdu, TaskFault<'a>> {
     let mut number = 0;
-    for row in rows {
-        match value_in(row, words) {
-            Some(value) => number |= u64::from(value) << (row.after % 64),
-            None => return Err(WordFault::BadValue(row.name)),
+    for line in FIELDS.lines() {
+        if is_of(line, name) {
+            let Some(value) = value_in(line, text) else {
+                return Err(TaskFault::BadValue(word_at(line, 2)));
+            };
+            let after = 80u32
+                .saturating_sub(number_at(line, 3))
+                .saturating_sub(number_at(line, 4));
+            number |= u64::from(value) << (after % 64);
         }
     }
     let [a, b, c, d, e, f, g, h] = number.to_be_bytes();
     Ok(Pdu::from_octets(&[opcode, 0, a, b, c, d, e, f, g, h]))
 }
 
-/// Returns the value of a row's field, or `None` if it is bad.
-fn value_in(row: &Row, words: &[&str]) -> Option<u32> {
-    let text = text_in(row.name, words);
-    match row.form {
-        Form::Number => number_in(text, row.bound),
-        Form::Channel => Some(Lpcn::try_new(number_in(text, row.bound)?)?.get()),
-        Form::Kind => match named(&Kind::NAMES, text) {
-            Some(kind) => Some(kind.get()),
-            None => number_in(text, row.bound),
-        },
-        Form::Reason => match named(&Reason::NAMES, text) {
-            Some(reason) => Some(reason.get()),
-            None => number_in(text, row.bound),
-        },
+/// Returns the value of a line's field in a text, or `None` if it is bad.
+fn value_in(line: &str, text: &str) -> Option<u32> {
+    let given = text_in(word_at(line, 2), text);
+    let number = number_in(given, 1 << (number_at(line, 4) % 32));
+    match word_at(line, 5) {
+        "Kind" => kind_called(given).or(number),
+        "Reason" => reason_called(given).or(number),
+        "Lpcn" => channel_of(number),
+        _ => number,
     }
 }
 
+/// Returns a number that is a channel's.
+fn channel_of(number: Option<u32>) -> Option<u32> {
+    Some(Lpcn::try_new(number?)?.get())
+}
+
 /// Returns the text of a field, or `0` if it is missing.
-fn text_in<'a>(name: &str, words: &[&'a str]) -> &'a str {
-    for word in words {
+fn text_in<'a>(name: &str, text: &'a str) -> &'a str {
+    for word in text.split_whitespace() {
         if let Some((given, value)) = word.split_once('=') {
             if given == name {
                 return value;
@@ -140,23 +127,34 @@ fn number_in(text: &str, bound: u32) -> Option<u32> {
     }
 }
 
-/// Returns the value with a name. These are the values that have one.
-fn named<T: Copy>(names: &[(T, &str)], name: &str) -> Option<T> {
-    for (value, known) in names {
-        if *known == name {
-            return Some(*value);
+/// Returns the number of the service kind with a name.
+fn kind_called(name: &str) -> Option<u32> {
+    for number in 0..16u32 {
+        if Kind::new(number).name() == Some(name) {
+            return Some(number);
         }
     }
     None
 }
 
-/// Returns the PDU of any ten octets.
-fn other<'a>(words: &[&'a str]) -> Result<Pdu, WordFault<'a>> {
+/// Returns the number of the reason with a name.
+fn reason_called(name: &str) -> Option<u32> {
+    for number in 0..256u32 {
+        if Reason::new(number).name() == Some(name) {
+            return Some(number);
+        }
+    }
+    None
+}
+
+/// Returns the PDU of any ten octets, which are in digits after the name.
+fn pdu_of_digits<'a>(text: &str) -> Result<Pdu, TaskFault<'a>> {
     let mut octets = [0; 10];
-    match words {
-        [digits] if hex::decode_to_slice(*digits, &mut octets).is_ok() => Ok(Pdu::from_octets(
-            &octets,
-        )),
-        _ => Err(WordFault::BadValue("OTHER")),
+    let mut words = text.split_whitespace().skip(1);
+    match (words.next(), words.next()) {
+        (Some(digits), None) if hex::decode_to_slice(digits, &mut octets).is_ok() => {
+            Ok(Pdu::from_octets(&octets))
+        }
+        _ => Err(TaskFault::BadValue("OTHER")),
     }
 }

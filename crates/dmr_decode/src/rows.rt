@@ -1,13 +1,13 @@
 //! The events of a site, and what it does for them: in words for people, and as fields for programs.
 
 use dmr_calls::{Call, Line};
-use dmr_core::{Act, Event};
+use dmr_core::{Act, Command, Event};
 use dmr_pdu::{Address, CarrierNo, Pdu, Slot};
 use std::io;
 use std::io::Write;
 
 /// The readers of a text.
-#[derive(Clone, Copy, Debug, PartialEq, Eq)]
+#[derive(Clone, Copy)]
 pub enum Form {
     /// People, who read words.
     Words,
@@ -26,11 +26,22 @@ pub struct Row<'a> {
     fields: &'static str,
     /// The numbers of both texts, in their order. The fields may have more of them than the words.
     numbers: [u32; 5],
-    /// The PDU at the end of both.
-    pdu: Option<&'a Pdu>,
+    /// What is at the end of both.
+    end: End<'a>,
 }
 
-/// Returns the row of an event. The text of a command is not in it.
+/// The end of the text of an event or an act.
+#[derive(Clone, Copy)]
+enum End<'a> {
+    /// Nothing.
+    Nothing,
+    /// A PDU.
+    Pdu(&'a Pdu),
+    /// An operator's command.
+    Command(&'a Command),
+}
+
+/// Returns the row of an event.
 pub fn row_of_event(event: &Event) -> Row<'_> {
     match event {
         Event::Up(carrier) => carrier_row("up", "carrier # is up", *carrier),
@@ -40,7 +51,10 @@ pub fn row_of_event(event: &Event) -> Row<'_> {
         Event::Active(slot) => slot_row("active", "activity on carrier # slot #", slot),
         Event::Poll(carrier) => carrier_row("poll", "carrier # polls", *carrier),
         Event::Tick => plain_row("tick", "a tick", "", [0; 5]),
-        Event::Say(_) => plain_row("say", "", "", [0; 5]),
+        Event::Say(command) => Row {
+            end: End::Command(command),
+            ..plain_row("say", "say ", " text=", [0; 5])
+        },
     }
 }
 
@@ -76,7 +90,7 @@ fn row_of_act(act: &Act) -> Row<'_> {
     }
 }
 
-/// Returns a row without a PDU.
+/// Returns a row with nothing at the end.
 fn plain_row(
     kind: &'static str,
     words: &'static str,
@@ -88,7 +102,7 @@ fn plain_row(
         words,
         fields,
         numbers,
-        pdu: None,
+        end: End::Nothing,
     }
 }
 
@@ -126,7 +140,7 @@ fn pdu_row<'a>(kind: &'static str, words: &'static str, slot: &Slot, pdu: &'a Pd
         words,
         fields: " carrier=# slot=# text=",
         numbers: [carrier.get(), slot.get(), 0, 0, 0],
-        pdu: Some(pdu),
+        end: End::Pdu(pdu),
     }
 }
 
@@ -176,9 +190,10 @@ pub fn show_row<W: Write>(row: &Row<'_>, form: Form, out: &mut W) -> io::Result<
         Form::Fields => row.fields,
     };
     show_text(text, &row.numbers, out)?;
-    match row.pdu {
-        Some(pdu) => writeln!(out, "{pdu}"),
-        None => writeln!(out),
+    match row.end {
+        End::Nothing => writeln!(out),
+        End::Pdu(pdu) => writeln!(out, "{pdu}"),
+        End::Command(command) => writeln!(out, "{command}"),
     }
 }
 

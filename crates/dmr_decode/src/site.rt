@@ -7,7 +7,6 @@ use crate::words_of_bursts::show_word;
 use dmr_bits::Word196;
 use dmr_frames::{FrameKind, FrameOut, Refusal, Version, write_frame};
 use dmr_pdu::SlotNo;
-use std::alloc::Global;
 use std::io;
 use std::io::Write;
 
@@ -20,14 +19,14 @@ struct Front<'a> {
 
 /// Prints the frames of octets that were sent to a carrier, and the first octets that begin no frame. Each is printed
 /// with the number of its first octet.
-pub fn show_site<W: Write>(alloc: Global, octets: &[u8], out: &mut W) -> io::Result<()> {
+pub fn show_site<W: Write>(octets: &[u8], out: &mut W) -> io::Result<()> {
     let mut rest = octets;
     for _ in 0..octets.len() {
         let begins = octets.len().saturating_sub(rest.len());
         let Some(front) = front_of(rest) else {
             break;
         };
-        show_frame(alloc, begins, &front.frame, out)?;
+        show_frame(begins, &front.frame, out)?;
         rest = front.rest;
     }
     if rest.len() > 0 {
@@ -42,19 +41,14 @@ pub fn show_site<W: Write>(alloc: Global, octets: &[u8], out: &mut W) -> io::Res
 }
 
 /// Prints a frame, and the meaning of its word.
-fn show_frame<W: Write>(
-    alloc: Global,
-    begins: usize,
-    frame: &FrameOut,
-    out: &mut W,
-) -> io::Result<()> {
+fn show_frame<W: Write>(begins: usize, frame: &FrameOut, out: &mut W) -> io::Result<()> {
     writeln!(out, "{begins:>4}  {frame}")?;
     match frame {
         FrameOut::Tx {
             number: _,
             slot: _,
             word,
-        } => show_word(alloc, word, out),
+        } => show_word(word, out),
         _ => Ok(()),
     }
 }

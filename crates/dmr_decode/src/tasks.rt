@@ -1,71 +1,34 @@
 //! The tasks of the program, each over the text of its input.
 
 use crate::carrier::CarrierReader;
-use crate::kept::{both, push};
-use crate::pdu_in_words::{WordFault, pdu_of};
+use crate::fault::TaskFault;
+use crate::kept::push;
+use crate::pdu_in_words::pdu_of;
 use crate::printable::Printable;
 use crate::site::show_site;
 use crate::words_of_bursts::{show_burst, show_word};
 use dmr_bits::Word196;
 use dmr_pdu::Pdu;
-use dmr_replay::ReplayFault;
-use std::alloc::{AllocError, Global};
+use std::alloc::Global;
 use std::io;
 use std::io::Write;
-use thiserror::Error;
 
-/// The fault of a task.
-#[derive(Debug, Drop, Error)]
-pub enum TaskFault<'a> {
-    /// No task has this name.
-    #[error("there is no task {0}")]
-    NoSuchTask(&'a str),
-    /// The input is not hexadecimal digits, two for each octet.
-    #[error("not hexadecimal digits, two an octet")]
-    NotHex,
-    /// The input is not the 25 octets of a word.
-    #[error("not the 25 octets of a word")]
-    NotWord,
-    /// One of the four bits after a word is 1.
-    #[error("not a word: its last four bits are not 0")]
-    BadPad,
-    /// The input is not ten octets.
-    #[error("not ten octets")]
-    NotTen,
-    /// The input is not a PDU in words.
-    #[error(transparent)]
-    Words(#[from] WordFault<'a>),
-    /// The site file is at fault, memory ran out while it was read, or a line of the script of a judged session is at
-    /// fault.
-    #[error(transparent)]
-    Replay(#[from] ReplayFault<'a>),
-    /// The site file with this path is too long.
-    #[error("{0} has more than 1 MiB")]
-    LongSite(&'a str),
-    /// The output could not be written in full, or memory ran out while it was made.
-    #[error("cannot write")]
-    Io(#[from] io::Error),
-    /// Memory ran out.
-    #[error(transparent)]
-    Memory(#[from(alloc)] AllocError),
-}
+/// The most carriers of a script.
+const MOST_READERS: u32 = 16;
 
 /// Runs the task with this name over a text, and writes its output.
 pub fn run<'a, W: Write>(
     alloc: Global,
-    task: &'a str,
+    task: &str,
     text: &'a str,
     out: &mut W,
 ) -> Result<(), TaskFault<'a>> {
     match task {
-        "carrier" => carrier(alloc, text, out),
-        "site" => site(alloc, text, out),
-        "word" => word(alloc, text, out),
-        "pdu" => pdu(alloc, text, out),
+        "carrier" | "site" | "word" | "pdu" => show_octets(alloc, task, text, out),
         "replay" => replay(alloc, text, out),
         "script" => script(alloc, text, out),
-        "write" => show_pdu_in_words(alloc, text, out),
-        _ => Err(TaskFault::NoSuchTask(task)),
+        "write" => Ok(show_burst(&pdu_of(text)?, out)?),
+        _ => Err(TaskFault::NoSuchTask),
     }
 }
 
@@ -77,41 +40,45 @@ pub fn octets_of<'a>(alloc: Global, text: &str) -> Result<Vec<u8>, TaskFault<'a>
     }
     match hex::decode(alloc, digits.as_str()) {
         Ok(octets) => Ok(octets),
-        Err(hex::FromHexError::OutOfMemory) => Err(TaskFault::Memory(AllocError)),
+        Err(hex::FromHexError::OutOfMemory) => Err(TaskFault::Memory),
         Err(_) => Err(TaskFault::NotHex),
     }
 }
 
-fn carrier<'a, W: Write>(alloc: Global, text: &str, out: &mut W) -> Result<(), TaskFault<'a>> {
+/// Shows the octets of hexadecimal digits: what a carrier sent or received, a word or a PDU, as the task says.
+fn show_octets<'a, W: Write>(
+    alloc: Global,
+    task: &str,
+    text: &str,
+    out: &mut W,
+) -> Result<(), TaskFault<'a>> {
     let octets = octets_of(alloc, text)?;
+    match task {
+        "carrier" => show_carrier(octets.as_slice(), out),
+        "site" => Ok(show_site(octets.as_slice(), out)?),
+        "word" => show_one_word(octets.as_slice(), out),
+        _ => show_ten(octets.as_slice(), out),
+    }
+}
+
+/// Shows the octets that a carrier sent.
+fn show_carrier<'a, W: Write>(octets: &[u8], out: &mut W) -> Result<(), TaskFault<'a>> {
     let mut reader = CarrierReader::new();
-    reader.show(alloc, octets.as_slice(), out)?;
-    reader.show_rest(out)?;
-    Ok(())
+    reader.show(octets, out)?;
+    Ok(reader.show_rest(out)?)
 }
 
-fn site<'a, W: Write>(alloc: Global, text: &str, out: &mut W) -> Result<(), TaskFault<'a>> {
-    let octets = octets_of(alloc, text)?;
-    show_site(alloc, octets.as_slice(), out)?;
-    Ok(())
-}
-
-fn word<'a, W: Write>(alloc: Global, text: &str, out: &mut W) -> Result<(), TaskFault<'a>> {
-    let octets = octets_of(alloc, text)?;
+/// Shows the word of 25 octets.
+fn show_one_word<'a, W: Write>(octets: &[u8], out: &mut W) -> Result<(), TaskFault<'a>> {
     if octets.len() != 25 {
         return Err(TaskFault::NotWord);
     }
     let mut whole = [0; 25];
-    whole.copy_from_slice(octets.as_slice());
+    whole.copy_from_slice(octets);
     match Word196::from_octets(&whole) {
-        Ok(word) => Ok(show_word(alloc, &word, out)?),
+        Ok(word) => Ok(show_word(&word, out)?),
         Err(_) => Err(TaskFault::BadPad),
     }
-}
-
-fn pdu<'a, W: Write>(alloc: Global, text: &str, out: &mut W) -> Result<(), TaskFault<'a>> {
-    let octets = octets_of(alloc, text)?;
-    show_ten(octets.as_slice(), out)
 }
 
 /// Shows the PDU of ten octets.
@@ -125,50 +92,32 @@ fn show_ten<'a, W: Write>(octets: &[u8], out: &mut W) -> Result<(), TaskFault<'a
     Ok(writeln!(out, "      {pdu}")?)
 }
 
-fn show_pdu_in_words<'a, W: Write>(
-    alloc: Global,
-    text: &'a str,
-    out: &mut W,
-) -> Result<(), TaskFault<'a>> {
-    let words: Vec<&str> = text.split_whitespace().collect(alloc)?;
-    show_pdu_of_words(alloc, words.as_slice(), out)
+/// Returns the first four words of a line. An empty text stands for a missing word.
+fn words_of(line: &str) -> [&str; 4] {
+    let mut words = line.split_whitespace();
+    let mut next = [""; 4];
+    for place in 0..4 {
+        next[place] = words.next().unwrap_or("");
+    }
+    next
 }
 
-/// Shows the burst of the PDU that these words mean.
-fn show_pdu_of_words<'a, W: Write>(
-    alloc: Global,
-    words: &[&'a str],
-    out: &mut W,
-) -> Result<(), TaskFault<'a>> {
-    let pdu = pdu_of(words)?;
-    Ok(show_burst(alloc, &pdu, out)?)
+/// Shows a line as it is.
+pub fn show_line<W: Write>(line: &str, out: &mut W) -> io::Result<()> {
+    writeln!(out, "{}", Printable(line))
 }
 
 /// Shows the output of a replay, line by line.
 fn replay<'a, W: Write>(alloc: Global, text: &str, out: &mut W) -> Result<(), TaskFault<'a>> {
     for line in text.lines() {
-        replay_line(alloc, line, out)?;
+        match words_of(line) {
+            ["carrier", number, digits, ""] if digits != "" => {
+                replay_carrier(alloc, number, digits, out)?
+            }
+            _ => show_line(line, out)?,
+        }
     }
     Ok(())
-}
-
-/// Shows the line of a carrier frame by frame, and any other line as it is.
-fn replay_line<'a, W: Write>(alloc: Global, line: &str, out: &mut W) -> Result<(), TaskFault<'a>> {
-    let words: Vec<&str> = line.split_whitespace().collect(alloc)?;
-    replay_words(alloc, line, words.as_slice(), out)
-}
-
-/// Shows a line, which has these words.
-fn replay_words<'a, W: Write>(
-    alloc: Global,
-    line: &str,
-    words: &[&str],
-    out: &mut W,
-) -> Result<(), TaskFault<'a>> {
-    match words {
-        ["carrier", number, digits] => replay_carrier(alloc, *number, *digits, out),
-        _ => Ok(writeln!(out, "{}", Printable(line))?),
-    }
 }
 
 /// Shows the number of a carrier, and the frames of its octets. Without octets the digits are `-`.
@@ -179,40 +128,33 @@ fn replay_carrier<'a, W: Write>(
     out: &mut W,
 ) -> Result<(), TaskFault<'a>> {
     writeln!(out, "carrier {}", Printable(number))?;
-    if digits == "-" {
-        return Ok(());
+    match digits {
+        "-" => Ok(()),
+        _ => show_octets(alloc, "site", digits, out),
     }
-    site(alloc, digits, out)
-}
-
-/// Adds a reader for each carrier.
-fn add_readers(readers: &mut Vec<CarrierReader>) -> Result<(), AllocError> {
-    for _ in 0..16u32 {
-        push(readers, CarrierReader::new())?;
-    }
-    Ok(())
 }
 
 /// Shows the lines of a script as they are, and after each piece of a carrier's octets the frames that it completes.
 fn script<'a, W: Write>(alloc: Global, text: &str, out: &mut W) -> Result<(), TaskFault<'a>> {
     let mut readers = Vec::new(alloc);
-    let added = add_readers(&mut readers);
-    let (mut readers, ()) = both(readers, added)?;
-    let shown = script_lines(alloc, text, readers.as_mut_slice(), out);
+    let shown = script_lines(alloc, text, &mut readers, out);
     drop(readers);
     shown
 }
 
-/// Shows the lines of a script, with a reader for each carrier.
+/// Shows the lines of a script, with a reader for each carrier, which it adds to an empty list.
 fn script_lines<'a, W: Write>(
     alloc: Global,
     text: &str,
-    readers: &mut [CarrierReader],
+    readers: &mut Vec<CarrierReader>,
     out: &mut W,
 ) -> Result<(), TaskFault<'a>> {
+    for _ in 0..MOST_READERS {
+        push(readers, CarrierReader::new())?;
+    }
     for line in text.lines() {
-        writeln!(out, "{}", Printable(line))?;
-        script_line(alloc, line, readers, out)?;
+        show_line(line, out)?;
+        script_line(alloc, line, readers.as_mut_slice(), out)?;
     }
     Ok(())
 }
@@ -224,34 +166,17 @@ fn script_line<'a, W: Write>(
     readers: &mut [CarrierReader],
     out: &mut W,
 ) -> Result<(), TaskFault<'a>> {
-    let words: Vec<&str> = line.split_whitespace().collect(alloc)?;
-    script_words(alloc, words.as_slice(), readers, out)
-}
-
-/// Shows the frames that a line of a script completes, which has these words.
-fn script_words<'a, W: Write>(
-    alloc: Global,
-    words: &[&str],
-    readers: &mut [CarrierReader],
-    out: &mut W,
-) -> Result<(), TaskFault<'a>> {
-    match words {
-        ["open", number] => {
-            begin_connection(readers, *number);
+    let [kind, number, digits, more] = words_of(line);
+    let Some(reader) = reader_of(readers, number) else {
+        return Ok(());
+    };
+    match (kind, more) {
+        ("open", "") if digits == "" => {
+            *reader = CarrierReader::new();
             Ok(())
         }
-        ["bytes", number, digits] => match reader_of(readers, *number) {
-            Some(reader) => piece(alloc, *digits, reader, out),
-            None => Ok(()),
-        },
+        ("bytes", "") => piece(alloc, digits, reader, out),
         _ => Ok(()),
-    }
-}
-
-/// Begins a connection of the carrier with this number, if there is one.
-fn begin_connection(readers: &mut [CarrierReader], number: &str) {
-    if let Some(reader) = reader_of(readers, number) {
-        *reader = CarrierReader::new();
     }
 }
 
@@ -263,7 +188,7 @@ fn piece<'a, W: Write>(
     out: &mut W,
 ) -> Result<(), TaskFault<'a>> {
     let octets = octets_of(alloc, digits)?;
-    Ok(reader.show(alloc, octets.as_slice(), out)?)
+    Ok(reader.show(octets.as_slice(), out)?)
 }
 
 /// Returns the reader of the carrier with this number.

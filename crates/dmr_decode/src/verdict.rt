@@ -9,11 +9,10 @@ use dmr_link::Deposit;
 use dmr_pdu::{Address, CarrierNo, Kind, Number, OutOfMemory, Pdu, Slot};
 use dmr_port::{CloseCause, Whose};
 use dmr_wire::Closing;
-use std::alloc::Global;
 use std::fmt;
 
 /// What the controller makes of a frame of a carrier.
-#[derive(Clone, Copy, Debug, PartialEq, Eq)]
+#[derive(Clone, Copy)]
 pub enum Verdict {
     /// The HELLO is accepted: this carrier is up.
     Up(CarrierNo),
@@ -43,22 +42,34 @@ pub enum Verdict {
     Ended(CloseCause),
 }
 
+impl Verdict {
+    /// Returns the text of the verdict. A carrier or a cause comes after it.
+    fn text(&self) -> &'static str {
+        match self {
+            Verdict::Up(_) => "counted: carrier ",
+            Verdict::Counted => "counted",
+            Verdict::NothingToSend => "counted: nothing is to be sent",
+            Verdict::Noise => "counted as noise",
+            Verdict::Active => "counted: the hang time of the call begins again",
+            Verdict::NotControl => "ignored: not the control slot",
+            Verdict::Retransmission => "ignored: it has the number of the RX before it",
+            Verdict::NoRequest => "ignored: not a request, and not an answer",
+            Verdict::NotAsked => "ignored: this radio was not asked",
+            Verdict::NoRoom => "ignored: too many PDUs wait for the control slot",
+            Verdict::NoCall => "ignored: no call is active on the slot",
+            Verdict::Refused(_) => "refused and ended: ",
+            Verdict::Ended(_) => "ended: ",
+        }
+    }
+}
+
 impl fmt::Display for Verdict {
     fn fmt<W: fmt::Write>(&self, f: &mut fmt::Formatter<W>) -> fmt::Result {
+        let text = self.text();
         match self {
-            Verdict::Up(carrier) => write!(f, "counted: carrier {carrier} is up"),
-            Verdict::Counted => write!(f, "counted"),
-            Verdict::NothingToSend => write!(f, "counted: nothing is to be sent"),
-            Verdict::Noise => write!(f, "counted as noise"),
-            Verdict::Active => write!(f, "counted: the hang time of the call begins again"),
-            Verdict::NotControl => write!(f, "ignored: not the control slot"),
-            Verdict::Retransmission => write!(f, "ignored: it has the number of the RX before it"),
-            Verdict::NoRequest => write!(f, "ignored: not a request, and not an answer"),
-            Verdict::NotAsked => write!(f, "ignored: this radio was not asked"),
-            Verdict::NoRoom => write!(f, "ignored: too many PDUs wait for the control slot"),
-            Verdict::NoCall => write!(f, "ignored: no call is active on the slot"),
-            Verdict::Refused(cause) => write!(f, "refused and ended: {cause}"),
-            Verdict::Ended(cause) => write!(f, "ended: {cause}"),
+            Verdict::Up(carrier) => write!(f, "{text}{carrier} is up"),
+            Verdict::Refused(cause) | Verdict::Ended(cause) => write!(f, "{text}{cause}"),
+            _ => f.write_str(text),
         }
     }
 }
@@ -77,7 +88,6 @@ pub fn verdict_of_end(closing: Closing, whose: Whose) -> Verdict
 /// Returns the verdict on a frame whose carrier is up after it, by the event that it produced. `None`: it produced no
 /// event, which only a retransmission does. `Err`: out of memory.
 pub fn verdict_of_event(
-    alloc: Global,
     desk: &mut SiteDesk,
     deposit: &Option<Deposit>,
 ) -> Result<Verdict, OutOfMemory>
@@ -103,7 +113,7 @@ pub fn verdict_of_event(
             _ => Verdict::NoCall,
         }),
         Event::Heard(slot, pdu) => match desk.state_of(slot) {
-            Some(State::Control) => why_unanswered(alloc, desk, slot, pdu),
+            Some(State::Control) => why_unanswered(desk, slot, pdu),
             _ => Ok(Verdict::NotControl),
         },
         Event::Lost(_) | Event::Tick | Event::Say(_) => Ok(Verdict::Counted),
@@ -111,16 +121,11 @@ pub fn verdict_of_event(
 }
 
 /// Returns why the site does not answer a PDU that came on the control slot. `Err`: out of memory.
-fn why_unanswered(
-    alloc: Global,
-    desk: &SiteDesk,
-    control: &Slot,
-    pdu: &Pdu,
-) -> Result<Verdict, OutOfMemory> {
+fn why_unanswered(desk: &SiteDesk, control: &Slot, pdu: &Pdu) -> Result<Verdict, OutOfMemory> {
     match pdu {
         Pdu::Random { .. } => Ok(Verdict::NoRoom),
         Pdu::Acku { .. } => {
-            let acts = desk.answer_to(alloc, &Event::Heard(*control, any_request()))?;
+            let acts = desk.answer_to(&Event::Heard(*control, any_request()))?;
             if acts.list.is_empty() {
                 Ok(Verdict::NoRoom)
             } else {

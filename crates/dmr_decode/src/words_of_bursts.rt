@@ -2,11 +2,11 @@
 
 ghost use Rattle.std.specs.Prelude.{◌<◌};
 
+use crate::printable::Digits;
 use dmr_bits::Word196;
 use dmr_bptc::decode;
 use dmr_burst::{read, write};
 use dmr_pdu::Pdu;
-use std::alloc::Global;
 use std::io;
 use std::io::Write;
 
@@ -14,22 +14,28 @@ use std::io::Write;
 const MENDED: u32 = 3;
 
 /// Prints the meaning of a word: its PDU and the mended bits, or why it has none.
-pub fn show_word<W: Write>(alloc: Global, word: &Word196, out: &mut W) -> io::Result<()> {
+pub fn show_word<W: Write>(word: &Word196, out: &mut W) -> io::Result<()> {
     match read(word) {
         Some(pdu) => {
             writeln!(out, "      {pdu}")?;
             show_flips(word, &write(&pdu), out)
         }
-        None => match decode(word) {
-            Some(sealed) => {
-                let digits = hex::encode_upper(alloc, sealed.as_slice())?;
-                writeln!(out, "      means nothing: the check of {digits} is wrong")
-            }
-            None => writeln!(
-                out,
-                "      means nothing: no codeword within {MENDED} flipped bits"
-            ),
-        },
+        None => show_meaningless(word, out),
+    }
+}
+
+/// Prints why a word means nothing.
+fn show_meaningless<W: Write>(word: &Word196, out: &mut W) -> io::Result<()> {
+    match decode(word) {
+        Some(sealed) => writeln!(
+            out,
+            "      means nothing: the check of {} is wrong",
+            Digits(&sealed)
+        ),
+        None => writeln!(
+            out,
+            "      means nothing: no codeword within {MENDED} flipped bits"
+        ),
     }
 }
 
@@ -72,12 +78,10 @@ fn show_place<W: Write>(place: usize, out: &mut W) -> io::Result<()>
 }
 
 /// Prints the ten octets of a PDU, their check and its burst.
-pub fn show_burst<W: Write>(alloc: Global, pdu: &Pdu, out: &mut W) -> io::Result<()> {
+pub fn show_burst<W: Write>(pdu: &Pdu, out: &mut W) -> io::Result<()> {
     let octets = pdu.to_octets();
     let check = dmr_csbk::check_of(&octets);
-    let digits = hex::encode_upper(alloc, octets.as_slice())?;
-    let burst = hex::encode_upper(alloc, write(pdu).to_octets().as_slice())?;
-    writeln!(out, "octets {digits}")?;
-    writeln!(out, "check {check:04X}")?;
-    writeln!(out, "burst {burst}")
+    let burst = write(pdu).to_octets();
+    let (digits, burst) = (Digits(&octets), Digits(&burst));
+    writeln!(out, "octets {digits}\ncheck {check:04X}\nburst {burst}")
 }

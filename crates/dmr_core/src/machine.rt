@@ -303,7 +303,7 @@ impl Machine {
         *acts = self.answer_command(command);
     }
 
-    /// Applies a command to the facts: `move` and `stay` change where the control channel moves.
+    /// Applies a command to the facts: `move` sets the channel to which the control channel moves, and `stay` removes it.
     fn apply_command(&mut self, command: &Command)
         ensures { self.new ≡ record {
           plan = self.old.plan;

@@ -11,8 +11,8 @@ macro_rules! lines_of {
     };
 }
 
-/// The fields of all PDUs, each on a line: the name of its PDU, the first octet of that PDU, its own name, its first
-/// bit, its width in bits and its type.
+/// The fields of all PDUs, each on a line. The line has the name of the PDU, the first octet of that PDU, and the
+/// field's name, first bit, width in bits and type.
 const FIELDS: &str = layouts!(lines_of,);
 
 /// Returns the word of a line at a place, or an empty text if the line has fewer words.

@@ -92,7 +92,7 @@ fn show_ten<'a, W: Write>(octets: &[u8], out: &mut W) -> Result<(), TaskFault<'a
     Ok(writeln!(out, "      {pdu}")?)
 }
 
-/// Returns the first four words of a line. An empty text stands for a missing word.
+/// Returns the first four words of a line. A missing word is an empty text.
 fn words_of(line: &str) -> [&str; 4] {
     let mut words = line.split_whitespace();
     let mut next = [""; 4];

@@ -1,5 +1,5 @@
-//! Functions that are generic in what they keep or compare. A test that owns a site, a desk or a port, and can end while
-//! it does, is expensive to prove, and so is an assertion; a call of one of these is cheap.
+//! Functions that are generic in what they keep or compare. A test that owns a site, a desk or a port, and that can end
+//! meanwhile, is expensive to prove. So is an assertion. A call of one of these functions is cheap.
 
 use std::alloc::AllocError;
 use std::fmt::{Debug, Display};

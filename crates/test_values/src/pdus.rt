@@ -6,9 +6,9 @@ use std::test::Fail;
 
 /// Ten octets in hexadecimal digits, and the PDU that they are, in words.
 ///
-/// Those at the end agree with no layout: PV_GRANT on channel 0, on 4095, and with a bit that has to be 0; LB 0, and a
-/// feature set; a bit that has to be 0 in TV_GRANT, C_ALOHA, C_AHOY (twice) and P_CLEAR; C_MOVE and P_CLEAR on channel
-/// 0; and opcodes that are not in the table.
+/// Those at the end agree with no layout. These are PV_GRANT on channel 0, on 4095, and with a bit that has to be 0. Next
+/// come LB 0 and a feature set, then a bit that has to be 0 in TV_GRANT, C_ALOHA, C_AHOY (twice) and P_CLEAR. The last
+/// are C_MOVE and P_CLEAR on channel 0, and opcodes that are not in the table.
 const PDUS: &str = "\
 99000000111234000000 => C_ALOHA sync=0 version=0 offset=0 active=0 mask=0 function=0 nrand_wait=0 register=1 backoff=1 system=4660 address=0
 99003E00FFCC85FF00C8 => C_ALOHA sync=1 version=7 offset=1 active=0 mask=0 function=0 nrand_wait=7 register=1 backoff=15 system=52357 address=16711880

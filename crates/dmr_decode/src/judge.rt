@@ -1,12 +1,12 @@
 //! A judged site: the controller's links over a site of its own, which say what the controller makes of each input.
 
 use crate::desk::SiteDesk;
-use crate::journal::EntryPrinter;
-use crate::judged_carrier::{JudgedCarrier, memory_error, show_newest};
+use crate::judged_carrier::{JudgedCarrier, memory_error};
 use crate::kept::push;
 use crate::octet_wire::OctetWire;
 use crate::printable::Printable;
 use crate::rows::{Form, show_reply};
+use crate::shown::Shown;
 use dmr_core::Event;
 use dmr_link::{ConsoleLink, Desk};
 use dmr_pdu::{CarrierNo, OutOfMemory};
@@ -15,49 +15,6 @@ use dmr_replay::ScriptInput;
 use std::alloc::{AllocError, Global};
 use std::io;
 use std::io::Write;
-
-/// The verdict on octets of a carrier without a connection, and on the end of none.
-const CLOSED: &str = "ignored: no connection is open";
-
-/// What is printed of the inputs of a script.
-#[derive(Clone, Copy)]
-pub enum Shown {
-    /// What the controller makes of each input.
-    Verdicts,
-    /// The entries of the site's journal.
-    Entries(EntryPrinter),
-}
-
-impl Shown {
-    /// Prints a verdict, or the entries for the events that the desk keeps.
-    fn show<W: Write>(
-        &mut self,
-        verdict: &str,
-        desk: &mut SiteDesk,
-        out: &mut W,
-    ) -> io::Result<()> {
-        match self {
-            Shown::Verdicts => writeln!(out, "{verdict}"),
-            Shown::Entries(entries) => entries.show_taken(desk, out),
-        }
-    }
-
-    /// Prints the acts for the newest event that the desk keeps, or the entries for all of them.
-    fn show_answer<W: Write>(&mut self, desk: &mut SiteDesk, out: &mut W) -> io::Result<()> {
-        match self {
-            Shown::Verdicts => show_newest(desk, out),
-            Shown::Entries(entries) => entries.show_taken(desk, out),
-        }
-    }
-
-    /// Prints the verdict that the site has no carrier with this number.
-    fn show_missing<W: Write>(&self, carrier: CarrierNo, out: &mut W) -> io::Result<()> {
-        match self {
-            Shown::Verdicts => writeln!(out, "ignored: the site has no carrier {carrier}"),
-            Shown::Entries(_) => Ok(()),
-        }
-    }
-}
 
 /// A site on which nothing has happened at first, its carriers by number, and the operators' link.
 #[derive(Drop)]
@@ -72,6 +29,14 @@ fn open_console() -> ConsoleLink {
     let mut console = ConsoleLink::new();
     let _ = console.open();
     console
+}
+
+/// Returns the carrier with a number, if the plan has it.
+fn carrier_in(
+    carriers: &mut [Option<JudgedCarrier>],
+    carrier: CarrierNo,
+) -> Option<&mut JudgedCarrier> {
+    carriers.get_mut(carrier.get() as usize)?.as_mut()
 }
 
 impl Judge {
@@ -109,91 +74,31 @@ impl Judge {
             Shown::Entries(entries) => entries.count_input(),
         }
         match input {
-            ScriptInput::Open(carrier) => self.open(*carrier, shown, out),
-            ScriptInput::Bytes(carrier, octets) => {
-                self.read(*carrier, octets.as_slice(), shown, out)
-            }
-            ScriptInput::Cut(carrier) => self.cut(*carrier, shown, out),
             ScriptInput::Tick(times) => self.tick(*times, shown, out),
             ScriptInput::Text(octets) => self.say(alloc, octets.as_slice(), shown, out),
-        }
-    }
-
-    /// Begins a connection of a carrier. One that is open ends first.
-    pub fn open<W: Write>(
-        &mut self,
-        carrier: CarrierNo,
-        shown: &mut Shown,
-        out: &mut W,
-    ) -> io::Result<()> {
-        let Some(Some(judged)) = self.carriers.get_mut(carrier.get() as usize) else {
-            return shown.show_missing(carrier, out);
-        };
-        let verdict = if judged.is_live() {
-            "counted: the connection before it ends, and a connection begins"
-        } else {
-            "counted: a connection begins"
-        };
-        judged.open(&mut self.desk);
-        shown.show(verdict, &mut self.desk, out)
-    }
-
-    /// Cuts a carrier's connection.
-    fn cut<W: Write>(
-        &mut self,
-        carrier: CarrierNo,
-        shown: &mut Shown,
-        out: &mut W,
-    ) -> io::Result<()> {
-        let Some(Some(judged)) = self.carriers.get_mut(carrier.get() as usize) else {
-            return shown.show_missing(carrier, out);
-        };
-        let verdict = if judged.is_live() {
-            "counted: the connection ends"
-        } else {
-            CLOSED
-        };
-        judged.cut(&mut self.desk);
-        shown.show(verdict, &mut self.desk, out)
-    }
-
-    /// Processes octets of a carrier. Prints whether they are read, and what they mean.
-    fn read<W: Write>(
-        &mut self,
-        carrier: CarrierNo,
-        octets: &[u8],
-        shown: &mut Shown,
-        out: &mut W,
-    ) -> io::Result<()> {
-        let Some(Some(judged)) = self.carriers.get_mut(carrier.get() as usize) else {
-            return shown.show_missing(carrier, out);
-        };
-        if !judged.is_live() {
-            return shown.show(CLOSED, &mut self.desk, out);
-        }
-        match shown {
-            Shown::Verdicts => {
-                writeln!(out, "read")?;
-                judged.receive(octets, &mut self.desk, out)
+            ScriptInput::Open(carrier)
+            | ScriptInput::Cut(carrier)
+            | ScriptInput::Bytes(carrier, _) => {
+                let carriers = self.carriers.as_mut_slice();
+                match carrier_in(carriers, *carrier) {
+                    Some(judged) => judged.show_input(input, &mut self.desk, shown, out),
+                    None => shown.show_missing(*carrier, out),
+                }
             }
-            Shown::Entries(entries) => judged.journal(octets, &mut self.desk, entries, out),
         }
     }
 
-    /// Processes octets of a carrier whose connection has just begun. Prints what they mean, and the number of octets of
-    /// a frame that is incomplete then.
-    pub fn receive<W: Write>(
+    /// Begins a connection of a carrier, and processes its octets. Prints what they mean, and the number of octets of a
+    /// frame that is incomplete then.
+    pub fn show_connection<W: Write>(
         &mut self,
         carrier: CarrierNo,
         octets: &[u8],
         out: &mut W,
     ) -> io::Result<()> {
-        match self.carriers.get_mut(carrier.get() as usize) {
-            Some(Some(judged)) => {
-                judged.receive(octets, &mut self.desk, out)?;
-                judged.show_rest(out)
-            }
-            _ => Ok(()),
+        match carrier_in(self.carriers.as_mut_slice(), carrier) {
+            Some(judged) => judged.show_connection(octets, &mut self.desk, out),
+            None => Ok(()),
         }
     }
 

@@ -4,13 +4,14 @@ use crate::carrier::show_word_in;
 use crate::desk::SiteDesk;
 use crate::journal::EntryPrinter;
 use crate::octet_wire::OctetWire;
-use crate::rows::{Form, show_acts};
+use crate::shown::{Shown, show_newest};
 use crate::verdict::{Verdict, verdict_of_end, verdict_of_event};
 use dmr_frames::{Cutter, FrameIn, Step, Version};
 use dmr_link::{Link, OpenGate, greatest_version};
 use dmr_pdu::{CarrierNo, OutOfMemory};
 use dmr_plan::Plan;
 use dmr_port::Whose;
+use dmr_replay::ScriptInput;
 use std::alloc::Global;
 use std::io;
 use std::io::Write;
@@ -50,28 +51,77 @@ impl JudgedCarrier {
     }
 
     /// Reports whether a connection is open.
-    pub fn is_live(&self) -> bool {
+    fn is_live(&self) -> bool {
         self.link.live()
     }
 
-    /// Cuts the connection, if one is open. The desk forgets earlier events.
-    pub fn cut(&mut self, desk: &mut SiteDesk) {
-        desk.forget();
-        let _ = self.link.cut(desk);
+    /// Processes an input of a script that names this carrier, and prints what that means.
+    pub fn show_input<W: Write>(
+        &mut self,
+        input: &ScriptInput,
+        desk: &mut SiteDesk,
+        shown: &mut Shown,
+        out: &mut W,
+    ) -> io::Result<()> {
+        let was_live = self.is_live();
+        let verdict = match input {
+            ScriptInput::Open(_) => self.open(desk),
+            _ if !was_live => "ignored: no connection is open",
+            ScriptInput::Bytes(_, _) => "read",
+            _ => self.cut(desk),
+        };
+        shown.show(verdict, desk, out)?;
+        match (input, shown) {
+            (ScriptInput::Bytes(_, octets), Shown::Verdicts) if was_live => {
+                self.receive(octets.as_slice(), desk, out)
+            }
+            (ScriptInput::Bytes(_, octets), Shown::Entries(entries)) => {
+                self.journal(octets.as_slice(), desk, entries, out)
+            }
+            _ => Ok(()),
+        }
     }
 
-    /// Begins a connection. One that is open ends first. The desk forgets earlier events.
-    pub fn open(&mut self, desk: &mut SiteDesk) {
+    /// Begins a connection, and processes its octets. Prints what they mean, and the number of octets of a frame that is
+    /// incomplete then.
+    pub fn show_connection<W: Write>(
+        &mut self,
+        octets: &[u8],
+        desk: &mut SiteDesk,
+        out: &mut W,
+    ) -> io::Result<()> {
+        let begun = self.open(desk);
+        writeln!(out, "{begun}")?;
+        self.receive(octets, desk, out)?;
+        self.show_rest(out)
+    }
+
+    /// Cuts the connection, if one is open. The desk forgets earlier events. Returns the verdict on the cut of an open
+    /// connection.
+    fn cut(&mut self, desk: &mut SiteDesk) -> &'static str {
+        desk.forget();
+        let _ = self.link.cut(desk);
+        "counted: the connection ends"
+    }
+
+    /// Begins a connection. One that is open ends first. The desk forgets earlier events. Returns the verdict.
+    fn open(&mut self, desk: &mut SiteDesk) -> &'static str {
+        let was_live = self.is_live();
         self.cut(desk);
         let _ = self.link.open();
         self.cutter = Cutter::new(self.greatest);
         self.came = 0;
         self.begins = 0;
+        if was_live {
+            "counted: the connection before it ends, and a connection begins"
+        } else {
+            "counted: a connection begins"
+        }
     }
 
     /// Processes octets. Prints the frames that they complete and the first fault, each with its place and the verdict.
     /// If the connection ends, it prints how many octets follow.
-    pub fn receive<W: Write>(
+    fn receive<W: Write>(
         &mut self,
         octets: &[u8],
         desk: &mut SiteDesk,
@@ -87,7 +137,7 @@ impl JudgedCarrier {
     }
 
     /// Processes octets up to the end of the connection, and prints the entries that they add to the journal.
-    pub fn journal<W: Write>(
+    fn journal<W: Write>(
         &mut self,
         octets: &[u8],
         desk: &mut SiteDesk,
@@ -168,7 +218,7 @@ impl JudgedCarrier {
     }
 
     /// Prints the number of octets of an incomplete frame, if the connection is open.
-    pub fn show_rest<W: Write>(&self, out: &mut W) -> io::Result<()> {
+    fn show_rest<W: Write>(&self, out: &mut W) -> io::Result<()> {
         let begins = self.begins;
         let rest = self.came.saturating_sub(begins);
         if rest > 0 && self.is_live() {
@@ -178,13 +228,5 @@ impl JudgedCarrier {
             )?;
         }
         Ok(())
-    }
-}
-
-/// Prints the acts for the newest event that the desk keeps.
-pub fn show_newest<W: Write>(desk: &SiteDesk, out: &mut W) -> io::Result<()> {
-    match desk.newest() {
-        Some(deposit) => show_acts(deposit.acts.list.as_slice(), Form::Words, out),
-        None => Ok(()),
     }
 }

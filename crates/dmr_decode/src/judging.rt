@@ -3,9 +3,10 @@
 
 use crate::fault::TaskFault;
 use crate::journal::EntryPrinter;
-use crate::judge::{Judge, Shown};
+use crate::judge::Judge;
 use crate::printable::Printable;
 use crate::rows::Form;
+use crate::shown::Shown;
 use crate::tasks::{octets_of, show_line};
 use dmr_frames::{Cutter, FrameIn, Step};
 use dmr_link::greatest_version;
@@ -82,19 +83,8 @@ fn judge_octets<'a, W: Write>(
 ) -> Result<(), TaskFault<'a>> {
     let octets = octets_of(alloc, text)?;
     let carrier = carrier_of(plan, octets.as_slice());
-    Ok(show_connection(judge, carrier, octets.as_slice(), out)?)
-}
-
-/// Shows a connection of a carrier on which these octets come.
-fn show_connection<W: Write>(
-    judge: &mut Judge,
-    carrier: CarrierNo,
-    octets: &[u8],
-    out: &mut W,
-) -> io::Result<()> {
     write!(out, "port of carrier {carrier} -> ")?;
-    judge.open(carrier, &mut Shown::Verdicts, out)?;
-    judge.receive(carrier, octets, out)
+    Ok(judge.show_connection(carrier, octets.as_slice(), out)?)
 }
 
 /// Shows the lines of a script, up to the first that is not a line of a script.

@@ -17,7 +17,7 @@
 //! and which frame would end a connection. No rule is written here again: `judged_carrier` and `judge` have the links
 //! of `dmr_link`, which hand their events to the site of `dmr_core` at a `desk`. `verdict` names the outcome,
 //! `rows` has the texts of the site's events and answers, `journal` prints its entries, and `judging` has the tasks.
-//! `fault` has the messages.
+//! `shown` says which of both a script is shown with, and `fault` has the messages.
 #![tactic(auto)]
 
 mod carrier;
@@ -32,6 +32,7 @@ mod octet_wire;
 mod pdu_in_words;
 mod printable;
 mod rows;
+mod shown;
 mod site;
 mod tasks;
 mod verdict;
@@ -103,32 +104,38 @@ fn is_judged(task: &str) -> bool {
     task == "carrier" || task == "script" || task == "journal" || task == "journal --fields"
 }
 
+/// Returns the words after an option, if the words begin with it.
+fn after_option<'a>(words: &'a [String], option: &str) -> Option<&'a [String]> {
+    match words {
+        [first, rest @ ..] if first.as_str() == option => Some(rest),
+        _ => None,
+    }
+}
+
 /// Reads the words of the command line. `None` if there is no task, no path after `--site`, or a site for a task that
 /// has no use for it.
 fn parse_words<'a>(words: &'a [String]) -> Option<Words<'a>> {
     let [task, rest @ ..] = words else {
         return None;
     };
-    let (task, rest) = match rest {
-        [option, rest @ ..] if task.as_str() == "journal" && option.as_str() == "--fields" => {
-            ("journal --fields", rest)
-        }
+    let (task, rest) = match after_option(rest, "--fields") {
+        Some(rest) if task.as_str() == "journal" => ("journal --fields", rest),
         _ => (task.as_str(), rest),
     };
-    match rest {
-        [option, path, rest @ ..] if option.as_str() == "--site" && is_judged(task) => Some(
-            Words {
-                task,
-                site: Some(path.as_str()),
-                rest,
-            },
-        ),
-        [option, ..] if option.as_str() == "--site" => None,
-        _ => Some(Words {
+    let Some(judged) = after_option(rest, "--site") else {
+        return Some(Words {
             task,
             site: None,
             rest,
+        });
+    };
+    match judged {
+        [path, rest @ ..] if is_judged(task) => Some(Words {
+            task,
+            site: Some(path.as_str()),
+            rest,
         }),
+        _ => None,
     }
 }
 

@@ -27,7 +27,7 @@ pub fn run<'a, W: Write>(
         "carrier" | "site" | "word" | "pdu" => show_octets(alloc, task, text, out),
         "replay" => replay(alloc, text, out),
         "script" => script(alloc, text, out),
-        "write" => Ok(show_burst(&pdu_of(text)?, out)?),
+        "write" => show_pdu_of_words(text, out),
         _ => Err(TaskFault::NoSuchTask),
     }
 }
@@ -90,6 +90,12 @@ fn show_ten<'a, W: Write>(octets: &[u8], out: &mut W) -> Result<(), TaskFault<'a
     whole.copy_from_slice(octets);
     let pdu = Pdu::from_octets(&whole);
     Ok(writeln!(out, "      {pdu}")?)
+}
+
+/// Shows the octets, check and burst of the PDU that the words of a text mean.
+fn show_pdu_of_words<'a, W: Write>(text: &'a str, out: &mut W) -> Result<(), TaskFault<'a>> {
+    let pdu = pdu_of(text)?;
+    Ok(show_burst(&pdu, out)?)
 }
 
 /// Returns the first four words of a line. A missing word is an empty text.

@@ -4,7 +4,6 @@ use crate::desk::SiteDesk;
 use crate::judged_carrier::{JudgedCarrier, memory_error};
 use crate::kept::push;
 use crate::octet_wire::OctetWire;
-use crate::printable::Printable;
 use crate::rows::{Form, show_reply};
 use crate::shown::Shown;
 use dmr_core::Event;
@@ -69,10 +68,7 @@ impl Judge {
         shown: &mut Shown,
         out: &mut W,
     ) -> io::Result<()> {
-        match shown {
-            Shown::Verdicts => write!(out, "{} -> ", Printable(line))?,
-            Shown::Entries(entries) => entries.count_input(),
-        }
+        shown.begin_input(line, out)?;
         match input {
             ScriptInput::Tick(times) => self.tick(*times, shown, out),
             ScriptInput::Text(octets) => self.say(alloc, octets.as_slice(), shown, out),
@@ -96,6 +92,7 @@ impl Judge {
         octets: &[u8],
         out: &mut W,
     ) -> io::Result<()> {
+        write!(out, "port of carrier {carrier} -> ")?;
         match carrier_in(self.carriers.as_mut_slice(), carrier) {
             Some(judged) => judged.show_connection(octets, &mut self.desk, out),
             None => Ok(()),

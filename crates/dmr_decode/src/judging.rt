@@ -83,8 +83,9 @@ fn judge_octets<'a, W: Write>(
 ) -> Result<(), TaskFault<'a>> {
     let octets = octets_of(alloc, text)?;
     let carrier = carrier_of(plan, octets.as_slice());
-    write!(out, "port of carrier {carrier} -> ")?;
-    Ok(judge.show_connection(carrier, octets.as_slice(), out)?)
+    let shown = judge.show_connection(carrier, octets.as_slice(), out);
+    drop(octets);
+    Ok(shown?)
 }
 
 /// Shows the lines of a script, up to the first that is not a line of a script.
@@ -98,9 +99,11 @@ fn judge_lines<'a, W: Write>(
     let Some(text) = lines_in(text) else {
         return Ok(());
     };
-    for (index, line) in text.split('\n').enumerate() {
+    let mut number = 0usize;
+    for line in text.split('\n') {
+        number = number.saturating_add(1);
         if !judge_line(alloc, judge, shown, line, out)? {
-            return Err(TaskFault::Replay(ReplayFault::ScriptLine(index.saturating_add(1))));
+            return Err(TaskFault::Replay(ReplayFault::ScriptLine(number)));
         }
     }
     Ok(())

@@ -2,6 +2,7 @@
 
 use crate::desk::SiteDesk;
 use crate::journal::EntryPrinter;
+use crate::printable::Printable;
 use crate::rows::{Form, show_acts};
 use dmr_pdu::CarrierNo;
 use std::io;
@@ -17,6 +18,17 @@ pub enum Shown {
 }
 
 impl Shown {
+    /// Prints the line of the next input, before its verdict; or else counts the input.
+    pub fn begin_input<W: Write>(&mut self, line: &str, out: &mut W) -> io::Result<()> {
+        match self {
+            Shown::Verdicts => write!(out, "{} -> ", Printable(line)),
+            Shown::Entries(entries) => {
+                entries.count_input();
+                Ok(())
+            }
+        }
+    }
+
     /// Prints a verdict, or the entries for the events that the desk keeps.
     pub fn show<W: Write>(
         &mut self,

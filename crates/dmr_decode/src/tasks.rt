@@ -24,7 +24,7 @@ pub fn run<'a, W: Write>(
     out: &mut W,
 ) -> Result<(), TaskFault<'a>> {
     match task {
-        "carrier" | "site" | "word" | "pdu" => show_octets(alloc, task, text, out),
+        "carrier" | "site" | "word" | "pdu" => show_digits(alloc, task, text, out),
         "replay" => replay(alloc, text, out),
         "script" => script(alloc, text, out),
         "write" => show_pdu_of_words(text, out),
@@ -45,19 +45,26 @@ pub fn octets_of<'a>(alloc: Global, text: &str) -> Result<Vec<u8>, TaskFault<'a>
     }
 }
 
-/// Shows the octets of hexadecimal digits: what a carrier sent or received, a word or a PDU, as the task says.
-fn show_octets<'a, W: Write>(
+/// Shows the octets of hexadecimal digits, as the task says.
+fn show_digits<'a, W: Write>(
     alloc: Global,
     task: &str,
     text: &str,
     out: &mut W,
 ) -> Result<(), TaskFault<'a>> {
     let octets = octets_of(alloc, text)?;
+    let shown = show_octets(task, octets.as_slice(), out);
+    drop(octets);
+    shown
+}
+
+/// Shows octets: what a carrier sent or received, a word or a PDU, as the task says.
+fn show_octets<'a, W: Write>(task: &str, octets: &[u8], out: &mut W) -> Result<(), TaskFault<'a>> {
     match task {
-        "carrier" => show_carrier(octets.as_slice(), out),
-        "site" => Ok(show_site(octets.as_slice(), out)?),
-        "word" => show_one_word(octets.as_slice(), out),
-        _ => show_ten(octets.as_slice(), out),
+        "carrier" => show_carrier(octets, out),
+        "site" => Ok(show_site(octets, out)?),
+        "word" => show_one_word(octets, out),
+        _ => show_ten(octets, out),
     }
 }
 
@@ -136,7 +143,7 @@ fn replay_carrier<'a, W: Write>(
     writeln!(out, "carrier {}", Printable(number))?;
     match digits {
         "-" => Ok(()),
-        _ => show_octets(alloc, "site", digits, out),
+        _ => show_digits(alloc, "site", digits, out),
     }
 }
 
@@ -194,7 +201,9 @@ fn piece<'a, W: Write>(
     out: &mut W,
 ) -> Result<(), TaskFault<'a>> {
     let octets = octets_of(alloc, digits)?;
-    Ok(reader.show(octets.as_slice(), out)?)
+    let shown = reader.show(octets.as_slice(), out);
+    drop(octets);
+    Ok(shown?)
 }
 
 /// Returns the reader of the carrier with this number.

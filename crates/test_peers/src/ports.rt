@@ -17,7 +17,7 @@ use dmr_frames::Version;
 use dmr_pdu::{CarrierNo, Lpcn, OutOfMemory};
 use dmr_port::{Note, PortNotes, PortSettings, ServingPort, Whose, empty_records_agree};
 use dmr_wire::{Closing, Connect, Got, Port, Put, RecordEntry, Waited, Wire};
-use std::alloc::Global;
+use std::fmt::Debug;
 use std::process::Abort;
 
 /// The number of peers of a script, at most.
@@ -100,7 +100,7 @@ impl Echo {
 }
 
 /// What answers add up to.
-#[derive(Clone, Copy, Debug, PartialEq, Eq)]
+#[derive(Clone, Copy)]
 struct Sums {
     /// The connections.
     opened: usize,
@@ -136,11 +136,25 @@ fn carrier() -> Whose {
     }
 }
 
+/// Drops what is handed back with a refused allocation.
+fn without_rest<T, A: Drop, B: Drop, C: Drop>(
+    made: Result<T, (OutOfMemory, A, B, C)>,
+) -> Result<T, OutOfMemory> {
+    match made {
+        Ok(made) => Ok(made),
+        Err((refused, first, second, third)) => {
+            drop(first);
+            drop(second);
+            drop(third);
+            Err(refused)
+        }
+    }
+}
+
 /// Plays a script over a port.
 fn play(rt: &(impl Abort + AllocGlobal), whose: Whose, row: &Row) -> Result<(), OutOfMemory> {
     let alloc = rt.alloc();
-    let events = events_of(alloc, row.script)?;
-    let sockets = MemorySockets::new(alloc, events, PEERS, row.until)?;
+    let sockets = MemorySockets::new(alloc, events_of(alloc, row.script)?, PEERS, row.until)?;
     let pad = Pad {
         text: String::new(alloc),
     };
@@ -151,10 +165,8 @@ fn play(rt: &(impl Abort + AllocGlobal), whose: Whose, row: &Row) -> Result<(), 
     };
     empty_records_agree();
     let answers = Answers::new(alloc);
-    let mut port = match ServingPort::with_witness(alloc, sockets, pad, settings, answers) {
-        Ok(port) => port,
-        Err((refused, _, _, _)) => return Err(refused),
-    };
+    let made = ServingPort::with_witness(alloc, sockets, pad, settings, answers);
+    let mut port = without_rest(made)?;
     let mut echo = Echo {
         is_live: false,
         got: 0,
@@ -164,21 +176,32 @@ fn play(rt: &(impl Abort + AllocGlobal), whose: Whose, row: &Row) -> Result<(), 
     }
     let reported = sums_of(port.witness().kept().unwrap_or(&[]));
     let (sockets, pad) = port.into_parts();
-    let logged = sums_of(sockets.log().kept().unwrap_or(&[]));
-    let text = pad.text.as_str();
-    match row.notes.strip_prefix("..") {
-        Some(last) => assert!(rt; text.ends_with(last), "{}: {text}", row.name),
-        None => assert_eq!(rt; text, row.notes, "{}", row.name),
-    }
-    assert_eq!(rt; echo.got, row.got, "{}", row.name);
-    assert_eq!(rt; reported.opened, logged.opened, "{}", row.name);
-    assert_eq!(rt; reported.came, row.got, "{}", row.name);
-    assert!(rt; reported.came <= logged.came, "{}", row.name);
-    assert!(rt; logged.taken <= reported.taken, "{}", row.name);
-    if let Some(reads) = row.reads {
-        assert_eq!(rt; sockets.asked.0, reads, "{}", row.name);
-    }
+    check(rt, row, &sockets, pad.text.as_str(), reported);
+    expect_same(rt, row.name, echo.got, row.got);
+    drop(sockets);
+    drop(pad);
     Ok(())
+}
+
+/// Checks what a port has noted and reported, and what its sockets were asked.
+fn check(rt: &impl Abort, row: &Row, sockets: &MemorySockets, notes: &str, reported: Sums) {
+    let logged = sums_of(sockets.log().kept().unwrap_or(&[]));
+    match row.notes.strip_prefix("..") {
+        Some(last) => expect_same(rt, row.name, notes.ends_with(last), true),
+        None => expect_same(rt, row.name, notes, row.notes),
+    }
+    expect_same(rt, row.name, reported.opened, logged.opened);
+    expect_same(rt, row.name, reported.came, row.got);
+    expect_same(rt, row.name, reported.came <= logged.came, true);
+    expect_same(rt, row.name, logged.taken <= reported.taken, true);
+    if let Some(reads) = row.reads {
+        expect_same(rt, row.name, sockets.asked.0, reads);
+    }
+}
+
+/// Checks that a value is the expected one.
+fn expect_same<V: Copy + PartialEq + Debug>(rt: &impl Abort, name: &str, value: V, wanted: V) {
+    assert_eq!(rt; value, wanted, "{name}");
 }
 
 #[test]

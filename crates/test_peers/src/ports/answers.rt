@@ -10,7 +10,7 @@ use std::alloc::Global;
 use std::marker::Model;
 
 /// An answer, and its octets.
-#[derive(Debug, Drop)]
+#[derive(Drop)]
 pub struct Kept {
     /// The answer.
     pub entry: RecordEntry,
@@ -19,7 +19,7 @@ pub struct Kept {
 }
 
 /// All answers so far, oldest first. If an allocation is refused, none are kept from then on.
-#[derive(Debug, Drop)]
+#[derive(Drop)]
 pub struct Answers {
     alloc: Global,
     kept: Vec<Kept>,

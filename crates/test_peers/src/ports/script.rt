@@ -6,33 +6,32 @@
 use dmr_pdu::OutOfMemory;
 use std::alloc::Global;
 
+/// HELLO of version 1 for carrier 0 with LPCN 1.
+const HELLO: &[u8] = &[0x01, 0x04, 0x01, 0x00, 0x00, 0x01];
+
+/// HELLO of version 1 for carrier 1 with LPCN 1.
+const OTHER: &[u8] = &[0x01, 0x04, 0x01, 0x01, 0x00, 0x01];
+
+/// POLL.
+const POLL: &[u8] = &[0x03, 0x00];
+
 /// What happens at a time.
-#[derive(Clone, Copy, Debug, PartialEq, Eq)]
+#[derive(Clone, Copy)]
 pub enum Deed {
     /// `comes`: the peer connects.
     Comes,
-    /// `hello`: it sends HELLO of version 1 for carrier 0 with LPCN 1.
-    Hello,
-    /// `other`: it sends HELLO of version 1 for carrier 1 with LPCN 1.
-    Other,
-    /// `polls N`: it sends POLL, and again each 60 ms, N times in all.
-    Polls,
-    /// `sends WORDS`: it sends the words.
-    Sends(&'static str),
-    /// `says WORDS`: it sends the words and a line feed.
-    Says(&'static str),
-    /// `floods`: it sends 4,000 octets 0.
-    Floods,
+    /// `hello`: the peer sends HELLO of version 1 for carrier 0 with LPCN 1; `other`: for carrier 1. `floods`: it sends
+    /// 4,000 octets 0. `sends WORDS`: it sends the words; `says WORDS`: also a line feed, as another event. `polls N`: it
+    /// sends POLL, and again each 60 ms, N times in all.
+    Sends(&'static [u8]),
     /// `takes N`: from now on it takes N octets, and no more.
     Takes(usize),
     /// `ends`: it ends its output.
     Ends,
     /// `resets`: it resets the connection.
     Resets,
-    /// `refuses`: no connection can be accepted.
-    Refuses,
-    /// `accepts`: connections can be accepted again.
-    Accepts,
+    /// `refuses`: no connection can be accepted. `accepts`: connections can be accepted again.
+    Refuses(bool),
     /// `interrupts`: the next accept, read and write are interrupted once.
     Interrupts,
     /// `stops N`: the program is stopped for N milliseconds.
@@ -44,7 +43,7 @@ pub enum Deed {
 }
 
 /// What a peer does at a time.
-#[derive(Clone, Copy, Debug, PartialEq, Eq)]
+#[derive(Clone, Copy)]
 pub struct Event {
     /// The milliseconds of the clock.
     pub at: u64,
@@ -59,17 +58,16 @@ fn deed_of(words: &'static str) -> Deed {
     let (first, rest) = words.split_once(' ').unwrap_or((words, ""));
     match first {
         "comes" => Deed::Comes,
-        "hello" => Deed::Hello,
-        "other" => Deed::Other,
-        "polls" => Deed::Polls,
-        "sends" => Deed::Sends(rest),
-        "says" => Deed::Says(rest),
-        "floods" => Deed::Floods,
+        "hello" => Deed::Sends(HELLO),
+        "other" => Deed::Sends(OTHER),
+        "polls" => Deed::Sends(POLL),
+        "sends" | "says" => Deed::Sends(rest.as_bytes()),
+        "floods" => Deed::Sends(&[0; 4000]),
         "takes" => Deed::Takes(rest.parse::<usize>().unwrap_or(0)),
         "ends" => Deed::Ends,
         "resets" => Deed::Resets,
-        "refuses" => Deed::Refuses,
-        "accepts" => Deed::Accepts,
+        "refuses" => Deed::Refuses(true),
+        "accepts" => Deed::Refuses(false),
         "interrupts" => Deed::Interrupts,
         "storms" => Deed::Storms(rest.parse::<usize>().unwrap_or(0)),
         "stops" => Deed::Stops(rest.parse::<u64>().unwrap_or(0)),
@@ -99,11 +97,12 @@ fn add_line(events: &mut Vec<Event>, line: &'static str) -> Result<(), OutOfMemo
     };
     for peer in first..=last {
         for time in 0..times {
-            events.push(Event {
-                at: at.saturating_add(time.saturating_mul(60)),
-                peer,
-                deed,
-            })?;
+            let at = at.saturating_add(time.saturating_mul(60));
+            events.push(Event { at, peer, deed })?;
+            if words.starts_with("says ") {
+                let deed = Deed::Sends(b"\n");
+                events.push(Event { at, peer, deed })?;
+            }
         }
     }
     Ok(())

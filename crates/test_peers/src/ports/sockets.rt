@@ -21,20 +21,11 @@ use std::net::{IpAddr, Ipv4Addr, SocketAddr};
 /// The system's number for "too many open files".
 const TOO_MANY_OPEN_FILES: i32 = 24;
 
-/// HELLO of version 1 for carrier 0 with LPCN 1.
-const HELLO: &[u8] = &[0x01, 0x04, 0x01, 0x00, 0x00, 0x01];
-
-/// HELLO of version 1 for carrier 1 with LPCN 1.
-const OTHER: &[u8] = &[0x01, 0x04, 0x01, 0x01, 0x00, 0x01];
-
-/// POLL.
-const POLL: &[u8] = &[0x03, 0x00];
-
 /// The most octets of a newcomer that a look finds.
 const MOST_SHOWN: usize = 8;
 
 /// The other side of a connection.
-#[derive(Debug, Drop)]
+#[derive(Drop)]
 struct Peer {
     /// The octets that it sent, and how many of them were read.
     octets: Vec<u8>,
@@ -50,10 +41,23 @@ impl Peer {
     fn unread(&self) -> &[u8] {
         self.octets.get(self.read..).unwrap_or(&[])
     }
+
+    /// Does what a deed says. If an allocation is refused, it sends no octets.
+    fn apply(&mut self, deed: Deed) {
+        match deed {
+            Deed::Sends(octets) => {
+                let _ = self.octets.extend_from_slice(octets);
+            }
+            Deed::Takes(count) => self.room = count,
+            Deed::Ends => self.has_ended = true,
+            Deed::Resets => self.has_reset = true,
+            _ => {}
+        }
+    }
 }
 
 /// A newcomer.
-#[derive(Clone, Copy, Debug)]
+#[derive(Clone, Copy)]
 struct Newcomer {
     /// The number of its peer.
     peer: usize,
@@ -83,7 +87,7 @@ impl Default for Newcomer {
 }
 
 /// What the latest wait found.
-#[derive(Clone, Copy, Debug)]
+#[derive(Clone, Copy)]
 struct Last {
     /// What it found.
     ready: Ready,
@@ -94,7 +98,7 @@ struct Last {
 }
 
 /// What a port sees of sockets in memory.
-#[derive(Debug, Drop)]
+#[derive(Drop)]
 struct Seen {
     clock: u64,
     newcomers: ArrayVec<Newcomer, 9>,
@@ -105,7 +109,7 @@ struct Seen {
 
 /// A listening socket, its connections, and a clock that goes on in waits, up to `until`. As with edge-triggered
 /// sockets of the system, a wait reports a change once.
-#[derive(Debug, Drop)]
+#[derive(Drop)]
 pub struct MemorySockets {
     seen: Seen,
     until: u64,
@@ -215,57 +219,17 @@ impl MemorySockets {
         }
     }
 
-    /// Adds octets that a peer sends. If an allocation is refused, it sends none.
-    fn send(&mut self, peer: usize, octets: &[u8])
-        ensures seen { self.new.seen ≡ record self.old.seen { clock = self.new.seen.clock } }
-        ensures clock { self.old.seen.clock ≤ self.new.seen.clock }
-    {
-        if let Some(peer) = self.peers.get_mut(peer) {
-            let _ = peer.octets.extend_from_slice(octets);
-        }
-        self.note_change(peer, false);
-    }
-
     /// Does what an event says.
     fn apply(&mut self, event: Event)
         ensures seen { self.new.seen ≡ record self.old.seen { clock = self.new.seen.clock } }
         ensures clock { self.old.seen.clock ≤ self.new.seen.clock }
     {
-        let peer = event.peer;
         match event.deed {
             Deed::Comes => {
-                let _ = self.backlog.push_back(peer);
+                let _ = self.backlog.push_back(event.peer);
                 self.reads.newcomers = true;
             }
-            Deed::Hello => self.send(peer, HELLO),
-            Deed::Other => self.send(peer, OTHER),
-            Deed::Polls => self.send(peer, POLL),
-            Deed::Sends(words) => self.send(peer, words.as_bytes()),
-            Deed::Says(words) => {
-                self.send(peer, words.as_bytes());
-                self.send(peer, b"\n");
-            }
-            Deed::Floods => self.send(peer, &[0; 4000]),
-            Deed::Takes(count) => {
-                if let Some(peer) = self.peers.get_mut(peer) {
-                    peer.room = count;
-                }
-                self.note_change(peer, false);
-            }
-            Deed::Ends => {
-                if let Some(peer) = self.peers.get_mut(peer) {
-                    peer.has_ended = true;
-                }
-                self.note_change(peer, true);
-            }
-            Deed::Resets => {
-                if let Some(peer) = self.peers.get_mut(peer) {
-                    peer.has_reset = true;
-                }
-                self.note_change(peer, true);
-            }
-            Deed::Refuses => self.refuses = true,
-            Deed::Accepts => self.refuses = false,
+            Deed::Refuses(refuses) => self.refuses = refuses,
             Deed::Interrupts => self.interrupts = [true; 3],
             Deed::Stops(milliseconds) => {
                 let now = self.seen.clock;
@@ -273,6 +237,13 @@ impl MemorySockets {
             }
             Deed::Storms(waits) => self.storm = waits,
             Deed::Unknown => {}
+            deed => {
+                if let Some(peer) = self.peers.get_mut(event.peer) {
+                    peer.apply(deed);
+                }
+                let closes = matches!(deed, Deed::Ends | Deed::Resets);
+                self.note_change(event.peer, closes);
+            }
         }
     }
 

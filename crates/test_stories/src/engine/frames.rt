@@ -1,4 +1,4 @@
-//! Frames for the stories of links.
+//! Frames for the tests of engines and links.
 
 /// HELLO of carrier 0.
 pub const HELLO_0: &[u8] = &[0x01, 0x04, 0x01, 0x00, 0x00, 0x01];

@@ -169,7 +169,9 @@ impl Book {
         self.journal.as_slice()
     }
 
-    /// Returns the site, in the state that the journal leads to, and the journal.
+    /// Returns the site, in the state that the journal leads to, and the journal. It stays a call, since a caller that
+    /// moves a site to two places takes LLVM long.
+    #[inline(never)]
     pub fn into_parts(self) -> (Site, Journal)
         ensures site { result.0 ≡ site_after_entries self.opening self.entries }
         ensures journal { result.1 ≡ self.entries }

@@ -1,7 +1,7 @@
 //! A term: the workers of a site, each in a thread of its own, at one desk.
 
 ghost use Rattle.std.specs.Prelude.{◌≡◌, ◌+◌, ◌≤◌, ◌<◌, ◌++◌, ◌∷◌, [], IfOk, IfErr, length, map};
-ghost use Rattle.std.specs.Prelude.{option_map, true, vec_capacity, vec_len};
+ghost use Rattle.std.specs.Prelude.{Some, option_map, true, vec_capacity, vec_len};
 ghost use Rattle.arrayvec.specs.ArrayVec.{array_vec_len};
 ghost use Rattle.dmr_desk.specs.Crew.{AllWorked, HasRoom, IsTermAt, end_of, start_of};
 ghost use Rattle.dmr_desk.specs.Limits.{most_actors};
@@ -144,8 +144,25 @@ fn split_all_works<S: Drop, T: Drop, C: Drop, L: DeskLedger>(
     (back, ticker.pacer, console.station)
 }
 
+/// A term that failed, as its workers left it. It is a call of its own because a value of this size that one function
+/// puts at two places of its result takes LLVM minutes.
+#[inline(never)]
+fn failed_term<S: Drop, T: Drop, C: Drop>(
+    fault: TermFault,
+    ended: Term<S, T, C>,
+) -> FailedTerm<S, T, C>
+    ensures fault { result.fault ≡ fault }
+    ensures ended { result.ended ≡ Some ended }
+{
+    FailedTerm {
+        fault,
+        ended: Some(ended),
+    }
+}
+
 /// Closes the desk with the workers' seats. `back` has room for their results. On an error the desk returned no report,
 /// or else a worker ended early; the error names the least such actor, and has the term as the workers left it.
+#[inline(never)]
 pub fn close_term<S, T, C, L, R>(
     rt: &R,
     desk: SharedDesk<L>,
@@ -189,26 +206,23 @@ where
                 console,
             };
             match early {
-                Some(actor) => Err(FailedTerm {
-                    fault: TermFault::Early(actor),
-                    ended: Some(term),
-                }),
+                Some(actor) => Err(failed_term(TermFault::Early(actor), term)),
                 None => Ok(term),
             }
         }
         Err(unreported) => {
             let Unreported { fault, kept } = unreported;
             match kept {
-                Some(report) => Err(FailedTerm {
-                    fault: TermFault::Audit(fault),
-                    ended: Some(Term {
+                Some(report) => Err(failed_term(
+                    TermFault::Audit(fault),
+                    Term {
                         report,
                         ends,
                         stations,
                         pacer,
                         console,
-                    }),
-                }),
+                    },
+                )),
                 None => Err(FailedTerm {
                     fault: TermFault::Audit(fault),
                     ended: None,

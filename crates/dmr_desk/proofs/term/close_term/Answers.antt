@@ -29,7 +29,8 @@ returns-in-Some-clause-ended g c = λ stations pacer console worked.
     let are : AreOf c.args.all _ _ _ = record { seats_are = back.seats; ends_are = back.ends; stations_are = back.stations } in
     let reported : early_actor (length c.in-Ok.report.journal) c.args.desk.limit c.split_all_works-back.result.0.ends.items ≡ Some
     c.in-Some.actor = rw c.requires.limit (sym c.find_early_actor-early.ensures ∙ c.in-Some.is) in
-    rw (back.pacer, back.console) (is_early _ _ _
+    let failed = c.failed_term.ensures in
+    rw (failed.fault, failed.ended, back.pacer, back.console) (is_early _ _ _
     (has_run g.S.Serving g.T.Pacer g.C.Serving c.args.desk stations pacer console c.args.all _ c.in-Ok.report _ _ c.in-Ok.ensures.ok are
     worked) reported)
 
@@ -37,7 +38,8 @@ pub returns-in-Some-kept-clause-ended : goal.returns-in-Some-kept-clause-ended
 returns-in-Some-kept-clause-ended g c = λ stations pacer console worked.
     let back = c.split_all_works-back.ensures in
     let are : AreOf c.args.all _ _ _ = record { seats_are = back.seats; ends_are = back.ends; stations_are = back.stations } in
-    rw (back.pacer, back.console) (is_unaudited g.S.Serving g.T.Pacer g.C.Serving c.args.desk stations pacer console c.args.all _
+    let failed = c.failed_term-in-Some-kept.ensures in
+    rw (failed.fault, failed.ended, back.pacer, back.console) (is_unaudited g.S.Serving g.T.Pacer g.C.Serving c.args.desk stations pacer console c.args.all _
     c.in-Err.unreported.fault c.in-Some-kept.report _ _ (rw c.in-Some-kept.is at c.in-Err.ensures.fault) are worked)
 
 pub returns-in-None-kept-clause-ended : goal.returns-in-None-kept-clause-ended

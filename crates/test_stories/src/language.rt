@@ -21,6 +21,7 @@ pub mod words;
 
 use dmr_pdu::OutOfMemory;
 use std::alloc::Global;
+use std::fmt::Debug;
 use std::process::Abort;
 
 /// The thing under test: takes the inputs of a story, one at a time, and writes its answers.
@@ -95,9 +96,14 @@ fn run_line<L: Listener>(
     for _ in 0..times {
         let mut said = String::new(rt.alloc());
         listener.answer_input(input, &mut said)?;
-        assert_eq!(rt; said.as_str(), wanted, "{name}: {line}");
+        expect_same(rt, name, (line, said.as_str()), (line, wanted));
     }
     Ok(())
+}
+
+/// Checks that a value is the expected one. `name` names it in a failure.
+pub fn expect_same<V: Copy + PartialEq + Debug>(rt: &impl Abort, name: &str, value: V, wanted: V) {
+    assert_eq!(rt; value, wanted, "{name}");
 }
 
 /// Splits an input into the count of its repetitions, 1 if the input has no count, and the rest.

@@ -2,6 +2,7 @@
 
 mod answers;
 mod desk;
+pub mod frames;
 mod gate;
 mod numbered;
 mod operators;
@@ -10,7 +11,7 @@ mod stage;
 mod steps;
 mod terms;
 
-use self::peer::TestedLink;
+use self::peer::LinkKind;
 use self::stage::run_stories;
 use std::test::Fail;
 
@@ -20,17 +21,17 @@ pub type LinkStory = (&'static str, &'static str);
 #[test]
 fn links_of_carriers(rt: HostRuntime) -> Result<(), Fail> {
     dmr_link::laws::limits_are_stated();
-    let peer = TestedLink::carrier();
-    run_stories(&rt, &peer, &terms::PAUSES, "")?;
-    run_stories(&rt, &peer, &terms::STOPS, "")?;
-    run_stories(&rt, &peer, &terms::CUTS, "")?;
-    run_stories(&rt, &peer, &terms::ENDINGS, terms::AGAIN)?;
-    run_stories(&rt, &TestedLink::numbered(), &numbered::NUMBERS, "")
+    let kind = LinkKind::Carrier;
+    run_stories(&rt, kind, &terms::PAUSES, "")?;
+    run_stories(&rt, kind, &terms::STOPS, "")?;
+    run_stories(&rt, kind, &terms::CUTS, "")?;
+    run_stories(&rt, kind, &terms::ENDINGS, terms::AGAIN)?;
+    run_stories(&rt, LinkKind::Numbered, &numbered::NUMBERS, "")
 }
 
 #[test]
 fn links_of_operators(rt: HostRuntime) -> Result<(), Fail> {
-    let peer = TestedLink::operator();
-    run_stories(&rt, &peer, &operators::STOPS, "")?;
-    run_stories(&rt, &peer, &operators::ENDINGS, operators::AGAIN)
+    let kind = LinkKind::Operator;
+    run_stories(&rt, kind, &operators::STOPS, "")?;
+    run_stories(&rt, kind, &operators::ENDINGS, operators::AGAIN)
 }

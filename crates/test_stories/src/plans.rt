@@ -1,6 +1,6 @@
 //! Tests of site files and their faults. Each case is the common site file with changes.
 
-use crate::language::{Listener, run_parts};
+use crate::language::{Listener, expect_same, run_parts};
 use crate::site_file::{SMALL, plan_of, reading_of};
 use dmr_pdu::{Address, CarrierNo, Lpcn, OutOfMemory};
 use dmr_plan::{CarrierRow, Plan, PlanFault, RadioRange};
@@ -225,10 +225,15 @@ fn numbers_of(plan: &Plan) -> Numbers {
 fn reads_each_value(rt: HostRuntime) -> Result<(), Fail> {
     for (changes, numbers, leave_bit, address) in &VALUES {
         let plan = plan_of(rt.alloc(), changes)?;
-        assert_eq!(rt; numbers_of(&plan), *numbers);
-        assert_eq!(rt; plan.leave_bit(), *leave_bit);
-        assert_eq!(rt; plan.address(), address.as_slice());
-        assert_eq!(rt; plan.control(), CarrierNo::new(0));
+        expect_same(
+            &rt,
+            changes,
+            numbers_of(&plan).as_slice(),
+            numbers.as_slice(),
+        );
+        expect_same(&rt, changes, plan.leave_bit(), *leave_bit);
+        expect_same(&rt, changes, plan.address(), address.as_slice());
+        expect_same(&rt, changes, plan.control().get(), 0);
     }
     Ok(())
 }

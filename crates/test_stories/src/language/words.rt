@@ -50,6 +50,11 @@ pub fn pdu_of(digits: &str) -> Option<Pdu> {
     }
 }
 
+/// Writes a decimal number.
+pub fn write_number(said: &mut String, number: usize) -> Result<(), OutOfMemory> {
+    write!(said, "{number}")
+}
+
 /// Writes a word and a slot.
 pub fn write_slot(said: &mut String, word: &str, slot: &Slot) -> Result<(), OutOfMemory> {
     write!(said, "{word}{}.{}", slot.carrier, slot.slot)

@@ -5,7 +5,7 @@ ghost use Rattle.std.specs.Prelude.{◌≡◌, None};
 use dmr_link::Gate;
 
 /// Counts the calls of `enter` and `leave`, and is shut at one of the entries.
-#[derive(Clone, Copy, Debug)]
+#[derive(Clone, Copy)]
 pub struct CountingGate {
     /// The number of the entry at which the gate is shut, counted from 1; 0 if it is never shut.
     pub shut_at: usize,

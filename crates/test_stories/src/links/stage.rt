@@ -19,13 +19,13 @@ use super::LinkStory;
 use super::answers::{word_of_ended, write_events, write_taken};
 use super::desk::ListDesk;
 use super::gate::CountingGate;
-use super::peer::TestedLink;
+use super::peer::{LinkKind, TestedLink};
 use super::steps::steps_of;
-use crate::language::words::{cut, replace_with, write_truth};
+use crate::language::words::{cut, replace_with, write_number, write_truth};
 use crate::language::{Listener, run_part};
 use crate::site_file::{SMALL, plan_of};
 use dmr_core::Site;
-use dmr_link::Ended;
+use dmr_link::{Deposit, Ended};
 use dmr_pdu::OutOfMemory;
 use dmr_plan::Plan;
 use dmr_wire::{MemoryPort, RecordEntry, Step};
@@ -56,12 +56,12 @@ struct LinkStage {
 /// Runs each story with a link of this kind, and then the lines `behind`.
 pub fn run_stories(
     rt: &(impl Abort + AllocGlobal),
-    peer: &TestedLink,
+    kind: LinkKind,
     stories: &[LinkStory],
     behind: &str,
 ) -> Result<(), Fail> {
     for (name, story) in stories {
-        let stage = stage_of(rt.alloc(), peer.another())?;
+        let stage = stage_of(rt.alloc(), kind)?;
         run_story(rt, stage, *name, *story, behind)?;
     }
     Ok(())
@@ -80,18 +80,24 @@ fn run_story<L: Listener + Drop>(
 }
 
 /// Returns a link with a port without steps and the desk of a new site.
-fn stage_of(alloc: Global, peer: TestedLink) -> Result<LinkStage, Fail> {
+fn stage_of(alloc: Global, kind: LinkKind) -> Result<LinkStage, Fail> {
     let plan = plan_of(alloc, SMALL)?;
     let port = port_of(alloc, Vec::new(alloc))?;
-    Ok(LinkStage {
-        alloc,
-        plan,
-        peer,
-        port,
-        desk: desk_of(alloc, plan)?,
-        seen: 0,
-        ended: None,
-    })
+    match desk_of(alloc, plan) {
+        Ok(desk) => Ok(LinkStage {
+            alloc,
+            plan,
+            peer: TestedLink::new(kind),
+            port,
+            desk,
+            seen: 0,
+            ended: None,
+        }),
+        Err(refused) => {
+            drop(port);
+            Err(refused.into())
+        }
+    }
 }
 
 /// Returns a port of these steps.
@@ -119,17 +125,22 @@ impl Listener for LinkStage {
             "serve" => self.serve(rest, false, said),
             "again" => self.serve(rest, true, said),
             "cut" => self.cut(said),
-            "reads" => write!(said, "{}", self.reads()),
-            "writes" => write!(said, "{}", self.writes()),
+            "reads" => write_number(said, self.calls().0),
+            "writes" => write_number(said, self.calls().1),
             _ => said.push_str("?"),
         }
     }
 }
 
+/// Writes the events from a place on.
+fn write_from(said: &mut String, calls: &[Deposit], seen: usize) -> Result<(), OutOfMemory> {
+    write_events(said, calls.get(seen..).unwrap_or(&[]))
+}
+
 impl LinkStage {
     /// Replaces the link, the desk and the port, and opens the link.
     fn begin(&mut self, steps: &str, said: &mut String) -> Result<(), OutOfMemory> {
-        self.peer = self.peer.another();
+        self.peer = TestedLink::new(self.peer.kind);
         replace_with(&mut self.desk, desk_of(self.alloc, self.plan)?);
         self.seen = 0;
         if !self.peer.open() {
@@ -140,9 +151,8 @@ impl LinkStage {
 
     /// Replaces the port by one of these steps.
     fn take_port(&mut self, steps: &str, said: &mut String) -> Result<(), OutOfMemory> {
-        let input = self.peer.input(self.alloc)?;
-        match steps_of(self.alloc, input.as_slice(), steps)? {
-            Some(steps) => self.port = port_of(self.alloc, steps)?,
+        match steps_of(self.alloc, self.peer.kind.input(), steps)? {
+            Some(steps) => replace_with(&mut self.port, port_of(self.alloc, steps)?),
             None => said.push_str("?")?,
         }
         Ok(())
@@ -197,30 +207,24 @@ impl LinkStage {
 
     /// Writes how a call ended, the events that the desk took since the last call, and the octets that the port took.
     fn write_course(&mut self, ended: &str, said: &mut String) -> Result<(), OutOfMemory> {
-        write!(said, "{ended};")?;
-        let calls = self.desk.calls();
-        write_events(said, calls.get(self.seen..).unwrap_or(&[]))?;
-        self.seen = calls.len();
+        said.push_str(ended)?;
         said.push_str(";")?;
-        let answer = self.peer.answer(self.alloc)?;
-        write_taken(said, answer.as_slice(), self.port.taken())
+        write_from(said, self.desk.calls(), self.seen)?;
+        self.seen = self.desk.calls().len();
+        said.push_str(";")?;
+        write_taken(said, self.peer.kind.answer(), self.port.taken())
     }
 
-    /// Returns the number of reads that the port has answered.
-    fn reads(&self) -> usize {
-        let entries = self.port.entries().unwrap_or(&[]);
-        entries
-            .iter()
-            .filter(|entry| matches!(entry, RecordEntry::Read(_)))
-            .count()
-    }
-
-    /// Returns the number of writes that the port has answered.
-    fn writes(&self) -> usize {
-        let entries = self.port.entries().unwrap_or(&[]);
-        entries
-            .iter()
-            .filter(|entry| matches!(entry, RecordEntry::Write(_)))
-            .count()
+    /// Returns the numbers of reads and of writes that the port has answered.
+    fn calls(&self) -> (usize, usize) {
+        let (mut reads, mut writes) = (0usize, 0usize);
+        for entry in self.port.entries().unwrap_or(&[]) {
+            match entry {
+                RecordEntry::Read(_) => reads = reads.saturating_add(1),
+                RecordEntry::Write(_) => writes = writes.saturating_add(1),
+                _ => {}
+            }
+        }
+        (reads, writes)
     }
 }

@@ -9,7 +9,7 @@
 //!
 //! `read` and `write` say how a read or write ends: `end`, `interrupted`, `block` or `fault`. `write N` takes N octets.
 
-use crate::engine::frames::{
+use super::frames::{
     ACCEPTED, BYE, DONE, FILL, HELLO_0, OTHER_CARRIER, OTHER_VERSION, POLL, REGISTERS, WELCOME,
 };
 use crate::language::times_of;

@@ -10,15 +10,18 @@ use std::alloc::Global;
 use std::process::Abort;
 use std::test::Fail;
 
-/// What an engine writes, in pieces that are joined.
+/// Octets, in pieces that are joined.
+type Pieces = &'static [&'static [u8]];
+
+/// What an engine writes.
 #[derive(Clone, Copy)]
 struct Written {
     /// To carrier 0.
-    first: &'static [&'static [u8]],
+    first: Pieces,
     /// To carrier 1.
-    second: &'static [&'static [u8]],
+    second: Pieces,
     /// To operators.
-    operators: &'static [&'static [u8]],
+    operators: Pieces,
 }
 
 /// Nothing.
@@ -66,8 +69,8 @@ fn outputs_of_run(alloc: Global, inputs: &[Input<'_>]) -> Result<Outputs, Fail> 
 fn outputs_by_steps(alloc: Global, inputs: &[Input<'_>]) -> Result<Outputs, Fail> {
     let mut engine = engine(alloc)?;
     let mut outputs = Outputs::new(alloc);
-    for input in inputs {
-        engine.step(*input, &mut outputs)?;
+    for input in inputs.iter().copied() {
+        engine.step(input, &mut outputs)?;
     }
     Ok(outputs)
 }
@@ -79,14 +82,14 @@ fn check_written(
     outputs: &Outputs,
     wanted: &Written,
 ) -> Result<(), OutOfMemory> {
-    for number in 0..16 {
-        let pieces = match number {
-            0 => wanted.first,
-            1 => wanted.second,
-            _ => &[],
-        };
+    check_octets(rt, name, outputs.carrier(CarrierNo::new(0)), wanted.first)?;
+    check_octets(rt, name, outputs.carrier(CarrierNo::new(1)), wanted.second)?;
+    for number in 2..16 {
         let carrier = CarrierNo::try_new(number).unwrap_or(CarrierNo::new(0));
-        check_octets(rt, name, outputs.carrier(carrier), pieces)?;
+        assert!(rt;
+            outputs.carrier(carrier).is_empty(),
+            "{name}, carrier {number}"
+        );
     }
     check_octets(rt, name, outputs.console(), wanted.operators)
 }
@@ -96,7 +99,7 @@ fn check_octets(
     rt: &(impl Abort + AllocGlobal),
     name: &str,
     octets: &[u8],
-    pieces: &[&[u8]],
+    pieces: Pieces,
 ) -> Result<(), OutOfMemory> {
     let mut joined = Vec::new(rt.alloc());
     for piece in pieces {

@@ -26,6 +26,7 @@ fn links_of_carriers(rt: HostRuntime) -> Result<(), Fail> {
     run_stories(&rt, kind, &terms::STOPS, "")?;
     run_stories(&rt, kind, &terms::CUTS, "")?;
     run_stories(&rt, kind, &terms::ENDINGS, terms::AGAIN)?;
+    run_stories(&rt, kind, &terms::FAILS, "")?;
     run_stories(&rt, LinkKind::Numbered, &numbered::NUMBERS, "")
 }
 

@@ -5,7 +5,7 @@
 use super::LinkStory;
 
 /// A repeat is not deposited, and the numbers of TX go on over events that the link kept.
-pub static NUMBERS: [LinkStory; 3] = [
+pub static NUMBERS: [LinkStory; 4] = [
     (
         "a burst that comes again",
         "\
@@ -51,6 +51,52 @@ begin octets 1 4 2 0 0 1 2 26; read block =>
 serve => bad length; up lost; 3
 begin octets 1 4 3 0 0 1 poll =>
 serve => bad version; -; version
+",
+    ),
+    (
+        "one burst, and then an end, a fault or another length",
+        "\
+rounds 0 to 5
+begin first 0+ =>
+serve => closed; -; 0
+
+rounds 6 to 34
+begin first 0+ =>
+serve => closed; up lost; 3
+
+begin first 35 =>
+serve => closed; up heard lost; 3
+begin first 35; octets 3 =>
+serve => closed; up heard lost; 3
+begin first 35; octets poll =>
+serve => closed; up heard poll lost; 34
+begin 17 read interrupted; first 35; octets poll =>
+serve => read fault; -; 0
+begin 16 read interrupted; first 35; octets poll =>
+serve => closed; up heard poll lost; 34
+
+rounds 0 to 2
+begin first 35; octets poll; 0+ write 1; write fault =>
+serve => write fault; up lost; 0+
+
+rounds 3 to 33
+begin first 35; octets poll; 0+ write 1; write fault =>
+serve => write fault; up heard poll lost; 0+
+
+begin octets 1 4 2 0 0 1 2 27 5 0; read block =>
+serve => idle; up; 3
+cut => done; lost; 3
+open => yes
+port first 35; octets poll =>
+serve => closed; up heard poll lost; 34
+
+rounds 0 to 26
+begin octets 1 4 2 0 0 1 2 0+; read block =>
+serve => bad length; up lost; 3
+
+rounds 28 to 255
+begin octets 1 4 2 0 0 1 2 0+; read block =>
+serve => bad length; up lost; 3
 ",
     ),
 ];

@@ -379,3 +379,81 @@ term 4 =>
 port first 36 =>
 serve => closed; up heard poll lost; 33
 ";
+
+/// A connection whose input ends after any number of octets, whose port fails after any number, whose reads are
+/// interrupted, or whose frame has another length than the table's.
+pub static FAILS: [LinkStory; 4] = [
+    (
+        "the input ends after some octets",
+        "\
+rounds 0 to 5
+begin first 0+ =>
+serve => closed; -; 0
+
+rounds 6 to 33
+begin first 0+ =>
+serve => closed; up lost; 3
+
+rounds 34 to 35
+begin first 0+ =>
+serve => closed; up heard lost; 3
+
+begin first 36 =>
+serve => closed; up heard poll lost; 33
+",
+    ),
+    (
+        "a port takes some octets and then fails",
+        "\
+rounds 0 to 2
+begin first 36; 0+ write 1; write fault =>
+serve => write fault; up lost; 0+
+
+rounds 3 to 32
+begin first 36; 0+ write 1; write fault =>
+serve => write fault; up heard poll lost; 0+
+",
+    ),
+    (
+        "interruptions in a row",
+        "\
+begin 16 read interrupted; first 36 =>
+serve => closed; up heard poll lost; 33
+begin 17 read interrupted; first 36 =>
+serve => read fault; -; 0
+",
+    ),
+    (
+        "each other length",
+        "\
+rounds 0 to 3
+begin octets 1 0+; read block =>
+serve => bad length; -; 0
+
+rounds 5 to 255
+begin octets 1 0+; read block =>
+serve => bad length; -; 0
+
+rounds 0 to 25
+begin octets 2 0+; read block =>
+serve => bad length; -; 0
+
+rounds 27 to 255
+begin octets 2 0+; read block =>
+serve => bad length; -; 0
+
+rounds 1 to 255
+begin octets 3 0+; read block =>
+serve => bad length; -; 0
+begin octets 5 0+; read block =>
+serve => bad length; -; 0
+
+begin octets 4 0; read block =>
+serve => bad length; -; 0
+
+rounds 2 to 255
+begin octets 4 0+; read block =>
+serve => bad length; -; 0
+",
+    ),
+];

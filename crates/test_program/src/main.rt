@@ -2,7 +2,7 @@
 //!
 //! | arguments | what it does |
 //! |---|---|
-//! | none | all that the gate compares: replays the cases from standard input, makes each call that takes memory, and decodes words with flips |
+//! | none | all that the gate compares: replays the cases from standard input, makes each call that takes memory, fills what has a limit, and decodes words with flips |
 //! | `--refusals` | makes each call that takes memory once (`refusals`) |
 //! | `--flips` | the number of all three flips of the registration burst that are read as the registration, and the time for them |
 //! | `--time` | lines "name rate count sum" of many words of each kind: words a second, the number of results, and a sum of the results |
@@ -19,7 +19,7 @@ mod refusals;
 
 use crate::bench::{BenchJob, job_of};
 use crate::cases::replay_input;
-use crate::refusals::make_calls;
+use crate::refusals::{fill_all, make_calls};
 use std::io::Eprint;
 use std::process::ExitCode;
 use std::{env, io};
@@ -31,8 +31,9 @@ fn run_all(rt: &HostRuntime) -> io::Result<bool> {
         return Ok(false);
     }
     let right = make_calls(rt)?;
+    let filled = fill_all(rt)?;
     bench::run(rt, BenchJob::Show)?;
-    Ok(right)
+    Ok(right && filled)
 }
 
 /// Does what the words after the program's name ask for. Returns the exit status: 2 if they ask for nothing that it

@@ -47,7 +47,7 @@ pub fn plan(alloc: Global) -> Option<Plan> {
 }
 
 /// Returns the control slot.
-fn control_slot() -> Slot {
+pub fn control_slot() -> Slot {
     Slot {
         carrier: CarrierNo::new(0),
         slot: SlotNo::new(0),

@@ -57,7 +57,7 @@ pub fn fill_outbox(alloc: Global) -> Verdict {
     }
 }
 
-/// Returns whether the control slot has room for 64 PDUs, and gives the oldest first.
+/// Returns whether the control slot has room for 64 PDUs, and sends the oldest first.
 fn fills_and_takes(mut pool: Pool) -> bool {
     let mut has_room = true;
     for number in 1..=64 {

@@ -35,6 +35,11 @@ Engine::run: done
 MemoryPort::new: done
 Book::new: done
 SharedDesk::open: done
+a full Registry: done
+a full outbox of Pool: done
+full lists of Calls: done
+a full BoundedList: done
+Access::fill: done
 clean: 1000 of 1000 decoded
 three flips: 1000 of 1000 decoded
 random: 0 of 1000 decoded

@@ -40,7 +40,8 @@ returns-in-Some-kept-clause-ended g c = λ stations pacer console worked.
     let are : AreOf c.args.all _ _ _ = record { seats_are = back.seats; ends_are = back.ends; stations_are = back.stations } in
     let failed = c.failed_term-in-Some-kept.ensures in
     rw (failed.fault, failed.ended, back.pacer, back.console) (is_unaudited g.S.Serving g.T.Pacer g.C.Serving
-    c.args.desk stations pacer console c.args.all _ c.in-Err.unreported.fault c.in-Some-kept.report _ _ (rw c.in-Some-kept.is at c.in-Err.ensures.fault) are worked)
+    c.args.desk stations pacer console c.args.all _
+    c.in-Err.unreported.fault c.in-Some-kept.report _ _ (rw c.in-Some-kept.is at c.in-Err.ensures.fault) are worked)
 
 pub returns-in-None-kept-clause-ended : goal.returns-in-None-kept-clause-ended
 returns-in-None-kept-clause-ended g c = λ stations pacer console worked.
